@@ -11,13 +11,14 @@ use Rattle.ftd_machine.specs.declared.facts.Explained.{Explained}
 use Rattle.ftd_machine.specs.declared.explained.RunningSum.{RunningSum}
 use Rattle.ftd_machine.specs.declared.replies.Reason.{Reason}
 use Rattle.ftd_answers.specs.Columns.{line_end}
-use Rattle.ftd_answers.specs.Fields.{Told, array_of, member, members_of, object_of, object_told}
-use Rattle.ftd_answers.specs.Fields.{quoted, text_field}
+use Rattle.ftd_answers.specs.Fields.{Field, Told, array_of, as_cents, as_day, as_text, both}
+use Rattle.ftd_answers.specs.Fields.{field_of, member, members_of, object_of, object_told, or_none}
+use Rattle.ftd_answers.specs.Fields.{quoted, text_field, told_by}
 use Rattle.ftd_answers.specs.declared.formats.Format.{Format}
 use Rattle.ftd_answers.specs.declared.formats.Format.TheVariants.{List as Listed, Calendar}
 use Rattle.ftd_answers.specs.declared.formats.ListFormat.TheVariants.{Text, Csv, Json}
 use Rattle.ftd_answers.specs.Explanations.{day_kind_name, explanation_told, reason_name, turn_of}
-use Rattle.ftd_answers.specs.KeptForms.{day_field, payment_object}
+use Rattle.ftd_answers.specs.KeptForms.{payment_object}
 use Rattle.ftd_answers.specs.Listings.{kind_name}
 
 -- ---- the fields of a part
@@ -34,19 +35,20 @@ obligation_fields o =
 abbrev pub status_fields : ℕ → Kind → Reason → List Told
 status_fields day kind reason =
     text_field (codes "day") (day_text day) ∷ text_field (codes "kind") (kind_name kind)
-    ∷ text_field (codes "reason") (reason_name reason) ∷ day_field (codes "turn") (turn_of reason)
-    ∷ []
+    ∷ text_field (codes "reason") (reason_name reason)
+    ∷ field_of (codes "turn") (or_none as_day (turn_of reason)) ∷ []
 
 -- a payday, its liability, and that of the days up to it
-abbrev pub payday_fields : RunningSum → List Told
-payday_fields x =
-    text_field (codes "day") (day_text x.day) ∷ text_field (codes "amount") (cents_text x.cents.0)
-    ∷ text_field (codes "total") (cents_text x.total.0) ∷ []
+abbrev pub payday_fields : List (Field RunningSum)
+payday_fields =
+    both (codes "day") (λ x. as_day x.day) ∷ both (codes "amount") (λ x. as_cents x.cents.0)
+    ∷ both (codes "total") (λ x. as_cents x.total.0) ∷ []
 
 -- a day that is counted to the due date, and what it is
-abbrev pub counted_fields : CountedDay → List Told
-counted_fields x =
-    text_field (codes "day") (day_text x.day) ∷ text_field (codes "is") (day_kind_name x.kind) ∷ []
+abbrev pub counted_fields : List (Field CountedDay)
+counted_fields =
+    both (codes "day") (λ x. as_day x.day)
+    ∷ both (codes "is") (λ x. as_text (day_kind_name x.kind)) ∷ []
 
 -- ---- JSON
 
@@ -61,8 +63,9 @@ abbrev pub explanation_members : List ℕ → Explanation → List (List ℕ)
 explanation_members account e =
     member (codes "obligation") (object_told (obligation_fields e.obligation))
     ∷ member (codes "status") (object_told (status_fields e.obligation.first e.kind e.reason))
-    ∷ member (codes "paydays") (array_of (map (λ x. object_told (payday_fields x)) e.paydays))
-    ∷ member (codes "days") (array_of (map (λ x. object_told (counted_fields x)) e.days))
+    ∷ member (codes "paydays") (array_of (map (λ x. object_told (told_by payday_fields x))
+    e.paydays))
+    ∷ member (codes "days") (array_of (map (λ x. object_told (told_by counted_fields x)) e.days))
     ∷ member (codes "return_due") (quoted (day_text e.return_due))
     ∷ member (codes "payments") (array_of (map (payment_object account) e.payments)) ∷ []
 

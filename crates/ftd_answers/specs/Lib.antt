@@ -14,6 +14,7 @@ pub mod ExplanationForms
 pub mod Unapplied
 pub mod Schedules
 pub mod Facts
+pub mod Private
 pub use Rattle.ftd_days.specs.Digits
 pub use Rattle.ftd_days.specs.Text
 pub use Rattle.ftd_ports.specs.Writing

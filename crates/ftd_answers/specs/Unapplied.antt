@@ -1,12 +1,13 @@
 -- The texts of money that counts for nothing.
-use Rattle.std.specs.Prelude.{ℕ, ◌-◌, List, [], ◌∷◌, ◌++◌, codes, map, Option, Some, None}
+use Rattle.std.specs.Prelude.{ℕ, ◌-◌, List, [], ◌∷◌, ◌++◌, codes, Option, Some, None}
 use Rattle.std.specs.Fmt.{decimal}
 use Rattle.std.specs.List.{concat, flat_map, join_with_byte}
-use Rattle.ftd_days.specs.Text.{cents_text, day_text}
+use Rattle.ftd_days.specs.Text.{day_text}
 use Rattle.ftd_machine.specs.declared.facts.Unapplied.{Unapplied}
 use Rattle.ftd_machine.specs.declared.lists.UnappliedRow.{UnappliedRow}
 use Rattle.ftd_answers.specs.Columns.{space, line_end, amount_in}
-use Rattle.ftd_answers.specs.Fields.{Told, list_of, object_told, record_told, text_field}
+use Rattle.ftd_answers.specs.Fields.{Field, as_cents, as_day, as_number, as_text, both, csv_of}
+use Rattle.ftd_answers.specs.Fields.{json_of, none_void, or_none}
 use Rattle.ftd_answers.specs.declared.formats.ListFormat.{ListFormat}
 use Rattle.ftd_answers.specs.declared.formats.ListFormat.TheVariants.{Text, Csv, Json}
 use Rattle.ftd_answers.specs.Listings.{name_text}
@@ -42,38 +43,20 @@ unapplied_text until rows = unapplied_head until ++ flat_map unapplied_line rows
 
 -- ---- the fields of a row, for CSV and JSON
 
--- a number, or none: nothing in a record, and `null` as JSON
-abbrev pub number_plain : Option ℕ → List ℕ
-number_plain None = []
-number_plain (Some number) = decimal number
-
-abbrev pub number_json : Option ℕ → List ℕ
-number_json None = codes "null"
-number_json (Some number) = decimal number
-
-abbrev pub payment_field : Option ℕ → Told
-payment_field number = record {
-  name = codes "payment";
-  plain = number_plain number;
-  json = number_json number;
-}
-
-abbrev pub unapplied_fields : UnappliedRow → List Told
-unapplied_fields x =
-    text_field (codes "account") x.account ∷ payment_field x.payment
-    ∷ text_field (codes "first") (day_text x.first) ∷ text_field (codes "last") (day_text x.last)
-    ∷ text_field (codes "amount") (cents_text x.amount.0)
-    ∷ text_field (codes "paid") (cents_text x.paid.0)
-    ∷ text_field (codes "over") (cents_text (over_of x)) ∷ []
-
-abbrev pub unapplied_names : List ℕ
-unapplied_names = codes "account,payment,first,last,amount,paid,over\n"
+abbrev pub unapplied_fields : List (Field UnappliedRow)
+unapplied_fields =
+    both (codes "account") (λ x. as_text x.account)
+    ∷ both (codes "payment") (λ x. or_none as_number x.payment)
+    ∷ both (codes "first") (λ x. as_day x.first) ∷ both (codes "last") (λ x. as_day x.last)
+    ∷ both (codes "amount") (λ x. as_cents x.amount.0)
+    ∷ both (codes "paid") (λ x. as_cents x.paid.0)
+    ∷ both (codes "over") (λ x. as_cents (over_of x)) ∷ []
 
 unfoldable pub unapplied_csv : List UnappliedRow → List ℕ
-unapplied_csv rows = unapplied_names ++ flat_map (λ x. record_told (unapplied_fields x)) rows
+unapplied_csv rows = csv_of none_void unapplied_fields rows
 
 unfoldable pub unapplied_json : List UnappliedRow → List ℕ
-unapplied_json rows = list_of (map (λ x. object_told (unapplied_fields x)) rows)
+unapplied_json rows = json_of unapplied_fields [] rows
 
 -- ---- in a format
 

@@ -4,7 +4,6 @@ ghost use Rattle.std.specs.Prelude.{◌≡◌, ◌++◌, map};
 ghost use Rattle.std.specs.List.{join_with_byte};
 ghost use Rattle.ftd_ports.specs.Writing.{Writes};
 ghost use Rattle.ftd_answers.specs.Fields.{array_of, comma, member_of, members_of, object_of};
-ghost use Rattle.ftd_answers.specs.Fields.{object_told};
 ghost use Rattle.ftd_answers.specs.ExplanationForms.{asked_head, counted_fields};
 ghost use Rattle.ftd_answers.specs.ExplanationForms.{explained_members, explanation_json};
 ghost use Rattle.ftd_answers.specs.ExplanationForms.{explanation_members, obligation_fields};
@@ -12,8 +11,8 @@ ghost use Rattle.ftd_answers.specs.ExplanationForms.{payday_fields, return_membe
 
 use crate::explanations::{day_kind_name, reason_name, turn_of};
 use crate::fields::write_array;
-use crate::kept_fields::{day_or_missing, kind_name};
-use crate::objects::Objects;
+use crate::forms::FieldName::Both;
+use crate::forms::{AccountRows, FieldName, Row, RowForm, write_fields};
 use crate::{RowFormat, Value, day_bytes, write_object};
 use ftd_days::Day;
 use ftd_machine::{CountedDay, Explanation, Reason, RunningSum};
@@ -40,46 +39,56 @@ fn status_members<'a>(day: Day, kind: Kind, reason: &Reason) -> [(&'a str, Value
     let why = reason_name(reason);
     [
         ("day", Value::Day(day)),
-        ("kind", Value::Text(kind_name(kind))),
+        ("kind", Value::Kind(kind)),
         ("reason", Value::Text(why)),
-        ("turn", day_or_missing(turn_of(reason))),
+        ("turn", Value::DayOrNone(turn_of(reason))),
     ]
 }
 
-/// The fields of a payday.
-fn payday_members<'a>(row: &RunningSum) -> [(&'a str, Value<'a>); 3]
-    ensures { map member_of result ≡ members_of (payday_fields row.now) }
-{
-    [
-        ("day", Value::Day(row.day)),
-        ("amount", Value::Amount(row.cents)),
-        ("total", Value::Amount(row.total)),
-    ]
-}
+static PAYDAY: [FieldName; 3] = [Both("day"), Both("amount"), Both("total")];
 
-/// The fields of a day that is counted to a due date.
-fn counted_members<'a>(row: &CountedDay) -> [(&'a str, Value<'a>); 2]
-    ensures { map member_of result ≡ members_of (counted_fields row.now) }
-{
-    [
-        ("day", Value::Day(row.day)),
-        ("is", Value::Text(day_kind_name(row.kind))),
-    ]
-}
+impl Row for RunningSum {
+    ghost fields = { λ account. payday_fields };
 
-impl<'a> RowFormat<RunningSum> for Objects<'a> {
-    ghost row_text = { λ objects row. object_told (payday_fields row) };
+    fn names() -> &'static [FieldName] {
+        &PAYDAY
+    }
 
-    fn write_row<W: Target>(&self, row: &RunningSum, target: &mut W) -> Result<(), WriteFault> {
-        write_object(&payday_members(row), target)
+    fn write<W: Target>(
+        &self,
+        account: &str,
+        form: RowForm,
+        target: &mut W,
+    ) -> Result<(), WriteFault> {
+        let fields = [
+            (PAYDAY[0], Value::Day(self.day)),
+            (PAYDAY[1], Value::Amount(self.cents)),
+            (PAYDAY[2], Value::Amount(self.total)),
+        ];
+        write_fields(form, false, &fields, target)
     }
 }
 
-impl<'a> RowFormat<CountedDay> for Objects<'a> {
-    ghost row_text = { λ objects row. object_told (counted_fields row) };
+static COUNTED_DAY: [FieldName; 2] = [Both("day"), Both("is")];
 
-    fn write_row<W: Target>(&self, row: &CountedDay, target: &mut W) -> Result<(), WriteFault> {
-        write_object(&counted_members(row), target)
+impl Row for CountedDay {
+    ghost fields = { λ account. counted_fields };
+
+    fn names() -> &'static [FieldName] {
+        &COUNTED_DAY
+    }
+
+    fn write<W: Target>(
+        &self,
+        account: &str,
+        form: RowForm,
+        target: &mut W,
+    ) -> Result<(), WriteFault> {
+        let fields = [
+            (COUNTED_DAY[0], Value::Day(self.day)),
+            (COUNTED_DAY[1], Value::Text(day_kind_name(&self.kind))),
+        ];
+        write_fields(form, false, &fields, target)
     }
 }
 
@@ -130,7 +139,10 @@ fn write_members<W: Target>(
     ensures { Writes result (W.taken target.old) (W.taken target.new)
         (W.failed target.new) (join_with_byte comma (explanation_members account.now e.now)) }
 {
-    let objects = Objects { account };
+    let objects = AccountRows {
+        account,
+        form: RowForm::Object,
+    };
     let obligation = obligation_members(&e.obligation);
     let status = status_members(e.obligation.first, e.kind, &e.reason);
     write_object_member(b"\"obligation\":", &obligation, target)?;

@@ -148,8 +148,8 @@ impl RowFormat<RunningSum> for Columns {
 }
 
 /// What a day is.
-pub fn day_kind_name<'a>(kind: DayKind) -> &'a str
-    ensures { result.now ≡ day_kind_name kind }
+pub fn day_kind_name(kind: &DayKind) -> &str
+    ensures { result.now ≡ day_kind_name kind.now }
 {
     match kind {
         DayKind::Business => "business",
@@ -160,8 +160,8 @@ pub fn day_kind_name<'a>(kind: DayKind) -> &'a str
 }
 
 /// What a day is, as it stands in a line.
-fn day_kind_bytes(kind: DayKind) -> &'static [u8]
-    ensures { result.now ≡ day_kind_name kind }
+fn day_kind_bytes(kind: &DayKind) -> &[u8]
+    ensures { result.now ≡ day_kind_name kind.now }
 {
     day_kind_name(kind).as_bytes()
 }
@@ -172,7 +172,7 @@ impl RowFormat<CountedDay> for Columns {
 
     fn write_row<W: Target>(&self, row: &CountedDay, target: &mut W) -> Result<(), WriteFault> {
         let day = day_bytes(row.day);
-        write_pieces(target, &[&day, b" ", day_kind_bytes(row.kind), b"\n"])
+        write_pieces(target, &[&day, b" ", day_kind_bytes(&row.kind), b"\n"])
     }
 }
 

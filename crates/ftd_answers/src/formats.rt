@@ -7,11 +7,10 @@ ghost use Rattle.ftd_rules.specs.Liability.{cents_of};
 ghost use Rattle.ftd_rules.specs.Verdicts.{amount_of};
 ghost use Rattle.ftd_answers.specs.Formats.{agenda_as, b_as, due_as, list_format, owed_as};
 
-use crate::agenda_forms::{write_agenda_csv, write_agenda_json};
 use crate::agendas::{write_agenda, write_owed};
 use crate::calendars::write_agenda_calendar;
-use crate::due_list_forms::{write_due_csv, write_due_json};
-use crate::schedule_b_forms::{write_b_csv, write_b_json};
+use crate::due_rows::{write_agenda_json, write_b_json, write_due_json};
+use crate::forms::write_csv;
 use crate::{due_list, schedule_b};
 use ftd_machine::{Agenda, DueList, LiabilityByDay, Owed};
 use ftd_ports::{Target, WriteFault};
@@ -52,6 +51,7 @@ impl Format {
 /// Writes what is due between two days over all accounts, in a format. It takes no memory but what
 /// the target takes. Where the target fails, a prefix of the text was written, and it fails nowhere
 /// else.
+#[tactic(auto, unfolding(crate::specs::Dues::agenda_csv))]
 pub fn write_agenda_as<W: Target>(
     format: Format,
     agenda: &Agenda,
@@ -65,13 +65,14 @@ pub fn write_agenda_as<W: Target>(
         Format::List(ListFormat::Text) => {
             write_agenda(agenda.from, agenda.to, agenda.as_of, rows, target)
         }
-        Format::List(ListFormat::Csv) => write_agenda_csv(rows, target),
+        Format::List(ListFormat::Csv) => write_csv("", rows, target),
         Format::List(ListFormat::Json) => write_agenda_json(rows, target),
         Format::Calendar => write_agenda_calendar(agenda.as_of, rows, target),
     }
 }
 
 /// Writes what is due until a day over all accounts and not paid, as `write_agenda_as` does.
+#[tactic(auto, unfolding(crate::specs::Dues::agenda_csv))]
 pub fn write_owed_as<W: Target>(
     format: Format,
     owed: &Owed,
@@ -83,7 +84,7 @@ pub fn write_owed_as<W: Target>(
     let rows = owed.rows.as_slice();
     match format {
         Format::List(ListFormat::Text) => write_owed(owed.until, owed.as_of, rows, target),
-        Format::List(ListFormat::Csv) => write_agenda_csv(rows, target),
+        Format::List(ListFormat::Csv) => write_csv("", rows, target),
         Format::List(ListFormat::Json) => write_agenda_json(rows, target),
         Format::Calendar => write_agenda_calendar(owed.as_of, rows, target),
     }
@@ -104,13 +105,14 @@ pub fn write_due_as<W: Target>(
     let rows = list.rows.as_slice();
     match format {
         ListFormat::Text => due_list(account, list.quarter, list.as_of, rows, target),
-        ListFormat::Csv => write_due_csv(account, rows, target),
+        ListFormat::Csv => write_csv(account, rows, target),
         ListFormat::Json => write_due_json(account, rows, target),
     }
 }
 
 /// Writes Schedule B in a format, as `write_agenda_as` does. The amounts are together below
 /// 6,000,000,000,000,000 cents.
+#[tactic(auto, unfolding(crate::specs::Dues::b_csv))]
 pub fn write_b_as<W: Target>(
     format: ListFormat,
     list: &LiabilityByDay,
@@ -124,7 +126,7 @@ pub fn write_b_as<W: Target>(
     let sums = list.sums.as_slice();
     match format {
         ListFormat::Text => schedule_b(account, list.quarter, sums, target),
-        ListFormat::Csv => write_b_csv(account, sums, target),
+        ListFormat::Csv => write_csv(account, sums, target),
         ListFormat::Json => write_b_json(account, sums, target),
     }
 }

@@ -3,25 +3,22 @@
 //! counts for nothing.
 #![tactic(auto)]
 
-mod agenda_forms;
 mod agendas;
 mod calendars;
-mod due_list_forms;
 mod due_lists;
+mod due_rows;
 mod due_texts;
 mod explanation_objects;
 mod explanations;
 mod facts;
 mod fields;
 mod formats;
-mod kept_fields;
+mod forms;
+mod kept_rows;
 mod liability_by_day;
 mod lines;
 mod listings;
-mod objects;
-mod records;
 mod rows;
-mod schedule_b_forms;
 mod schedules;
 mod totals;
 mod unapplied;

@@ -11,7 +11,6 @@ ghost use Rattle.ftd_answers.specs.Listings.{holiday_line, void_end, run_line, h
 ghost use Rattle.ftd_answers.specs.Listings.{payment_line};
 
 use crate::agendas::spaces_after;
-use crate::kept_fields::kind_name;
 use crate::values::amount_column;
 use crate::{RowFormat, amount_text, day_bytes, form_bytes, quarter_bytes};
 use ftd_days::{Cents, Day};
@@ -63,7 +62,10 @@ fn carried_text(carried: bool) -> &'static [u8]
 pub fn kind_bytes(kind: Kind) -> &'static [u8]
     ensures { result.now ≡ kind_name kind }
 {
-    kind_name(kind).as_bytes()
+    match kind {
+        Kind::Monthly => b"monthly",
+        Kind::Semiweekly => b"semiweekly",
+    }
 }
 
 /// The obligation that a payment counts for.

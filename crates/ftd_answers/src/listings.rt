@@ -5,9 +5,8 @@ ghost use Rattle.ftd_answers.specs.KeptForms.{kept_as};
 ghost use Rattle.ftd_answers.specs.Listings.{head_text, kept_text, of_account, of_quarter};
 ghost use Rattle.ftd_answers.specs.Listings.{rows_text};
 
+use crate::kept_rows::{write_kept_csv, write_kept_json};
 use crate::lines::Columns;
-use crate::objects::write_kept_json;
-use crate::records::write_kept_csv;
 use crate::{ListFormat, quarter_bytes, write_rows};
 use ftd_days::Quarter;
 use ftd_machine::KeptRows;

@@ -6,7 +6,6 @@ ghost use Rattle.ftd_answers.specs.Fields.{member_of, members_of, object_told};
 ghost use Rattle.ftd_answers.specs.Schedules.{reason_fields, schedule_as, turn_field};
 
 use crate::explanations::{reason_name, turn_of, write_schedule};
-use crate::kept_fields::kind_name;
 use crate::{Format, ListFormat, Value, write_object};
 use ftd_days::Day;
 use ftd_machine::DaySchedule;
@@ -19,7 +18,7 @@ fn schedule_members<'a>(schedule: &DaySchedule) -> [(&'a str, Value<'a>); 3]
     let why = reason_name(&schedule.reason);
     [
         ("day", Value::Day(schedule.day)),
-        ("kind", Value::Text(kind_name(schedule.kind))),
+        ("kind", Value::Kind(schedule.kind)),
         ("reason", Value::Text(why)),
     ]
 }
@@ -32,7 +31,7 @@ fn turn_members<'a>(schedule: &DaySchedule, turn: Day) -> [(&'a str, Value<'a>);
     let why = reason_name(&schedule.reason);
     [
         ("day", Value::Day(schedule.day)),
-        ("kind", Value::Text(kind_name(schedule.kind))),
+        ("kind", Value::Kind(schedule.kind)),
         ("reason", Value::Text(why)),
         ("turn", Value::Day(turn)),
     ]

@@ -1,19 +1,16 @@
 //! Money that counts for nothing, in lines of columns, as CSV and as JSON.
 
-ghost use Rattle.std.specs.Prelude.{◌≡◌, map};
+ghost use Rattle.std.specs.Prelude.{◌≡◌};
 ghost use Rattle.ftd_ports.specs.Writing.{Writes};
-ghost use Rattle.ftd_answers.specs.Fields.{json_text, member_of, members_of, object_told, plain_of};
-ghost use Rattle.ftd_answers.specs.Fields.{plain_text, plain_texts, record_told};
-ghost use Rattle.ftd_answers.specs.Unapplied.{money_text, number_json, number_plain, over_of};
-ghost use Rattle.ftd_answers.specs.Unapplied.{unapplied_as, unapplied_csv, unapplied_fields};
-ghost use Rattle.ftd_answers.specs.Unapplied.{unapplied_head, unapplied_json, unapplied_line};
-ghost use Rattle.ftd_answers.specs.Unapplied.{unapplied_text, which_text};
+ghost use Rattle.ftd_answers.specs.Unapplied.{money_text, over_of, unapplied_as, unapplied_fields};
+ghost use Rattle.ftd_answers.specs.Unapplied.{unapplied_head, unapplied_line, unapplied_text};
+ghost use Rattle.ftd_answers.specs.Unapplied.{which_text};
 
-use crate::fields::{write_list, write_record};
+use crate::forms::FieldName::Both;
+use crate::forms::{FieldName, Row, RowForm, write_csv, write_fields, write_json};
 use crate::lines::write_name;
-use crate::rows::write_table;
 use crate::values::amount_column;
-use crate::{ListFormat, RowFormat, Value, day_bytes, write_object, write_rows};
+use crate::{ListFormat, RowFormat, Value, day_bytes, write_rows};
 use ftd_days::{Cents, Day};
 use ftd_machine::{Unapplied, UnappliedRow};
 use ftd_ports::{Target, WriteFault, write_all, write_pieces};
@@ -22,14 +19,6 @@ use itoa::Buffer;
 /// The rows in lines of columns.
 #[derive(Drop)]
 struct Lines;
-
-/// The rows as records of CSV.
-#[derive(Drop)]
-struct Records;
-
-/// The rows as objects of JSON.
-#[derive(Drop)]
-struct Objects;
 
 /// What counts for nothing of a row: the payment, or what is paid beyond the amount of the
 /// obligation.
@@ -96,48 +85,39 @@ impl RowFormat<UnappliedRow> for Lines {
     }
 }
 
-/// The number of a payment, or none.
-fn number_or_missing<'a>(payment: Option<u32>) -> Value<'a>
-    ensures plain { plain_text result ≡ number_plain payment }
-    ensures json { json_text result ≡ number_json payment }
-{
-    match payment {
-        Some(number) => Value::Number(number),
-        None => Value::Missing,
+static UNAPPLIED: [FieldName; 7] = [
+    Both("account"),
+    Both("payment"),
+    Both("first"),
+    Both("last"),
+    Both("amount"),
+    Both("paid"),
+    Both("over"),
+];
+
+impl Row for UnappliedRow {
+    ghost fields = { λ account. unapplied_fields };
+
+    fn names() -> &'static [FieldName] {
+        &UNAPPLIED
     }
-}
 
-/// The fields of a row.
-fn fields_of(row: &UnappliedRow) -> [(&str, Value<'_>); 7]
-    ensures plain { map plain_of result ≡ plain_texts (unapplied_fields row.now) }
-    ensures members { map member_of result ≡ members_of (unapplied_fields row.now) }
-{
-    [
-        ("account", Value::Text(row.account.as_str())),
-        ("payment", number_or_missing(row.payment)),
-        ("first", Value::Day(row.first)),
-        ("last", Value::Day(row.last)),
-        ("amount", Value::Amount(row.amount)),
-        ("paid", Value::Amount(row.paid)),
-        ("over", Value::Amount(over_of(row))),
-    ]
-}
-
-impl RowFormat<UnappliedRow> for Records {
-    ghost row_text = { λ records row. record_told (unapplied_fields row) };
-
-    #[tactic(auto, unfolding(crate::specs::Fields::record_told))]
-    fn write_row<W: Target>(&self, row: &UnappliedRow, target: &mut W) -> Result<(), WriteFault> {
-        write_record(&fields_of(row), target)
-    }
-}
-
-impl RowFormat<UnappliedRow> for Objects {
-    ghost row_text = { λ objects row. object_told (unapplied_fields row) };
-
-    #[tactic(auto, unfolding(crate::specs::Fields::object_told))]
-    fn write_row<W: Target>(&self, row: &UnappliedRow, target: &mut W) -> Result<(), WriteFault> {
-        write_object(&fields_of(row), target)
+    fn write<W: Target>(
+        &self,
+        account: &str,
+        form: RowForm,
+        target: &mut W,
+    ) -> Result<(), WriteFault> {
+        let fields = [
+            (UNAPPLIED[0], Value::Text(self.account.as_str())),
+            (UNAPPLIED[1], Value::NumberOrNone(self.payment)),
+            (UNAPPLIED[2], Value::Day(self.first)),
+            (UNAPPLIED[3], Value::Day(self.last)),
+            (UNAPPLIED[4], Value::Amount(self.amount)),
+            (UNAPPLIED[5], Value::Amount(self.paid)),
+            (UNAPPLIED[6], Value::Amount(over_of(self))),
+        ];
+        write_fields(form, false, &fields, target)
     }
 }
 
@@ -164,28 +144,10 @@ fn write_text<W: Target>(
     write_rows(&Lines, rows, target)
 }
 
-/// Writes a first line with the names of the fields, and a record for each row.
-#[tactic(auto, unfolding(crate::specs::Unapplied::unapplied_csv))]
-fn write_csv<W: Target>(rows: &[UnappliedRow], target: &mut W) -> Result<(), WriteFault>
-    ensures { Writes result (W.taken target.old) (W.taken target.new)
-        (W.failed target.new) (unapplied_csv rows.now) }
-{
-    let names = b"account,payment,first,last,amount,paid,over\n";
-    write_table(names, &Records, rows, target)
-}
-
-/// Writes a list with an object for each row.
-#[tactic(auto, unfolding(crate::specs::Unapplied::unapplied_json))]
-fn write_json<W: Target>(rows: &[UnappliedRow], target: &mut W) -> Result<(), WriteFault>
-    ensures { Writes result (W.taken target.old) (W.taken target.new)
-        (W.failed target.new) (unapplied_json rows.now) }
-{
-    write_list(&Objects, rows, target)
-}
-
 /// Writes money that counts for nothing, of the days up to one, in a format. It takes no memory but
 /// what the target takes. Where the target fails, a prefix of the text was written, and it fails
 /// nowhere else.
+#[tactic(auto, unfolding(crate::specs::Unapplied::unapplied_csv, crate::specs::Unapplied::unapplied_json))]
 pub fn write_unapplied_as<W: Target>(
     format: ListFormat,
     unapplied: &Unapplied,
@@ -197,7 +159,7 @@ pub fn write_unapplied_as<W: Target>(
     let rows = unapplied.rows.as_slice();
     match format {
         ListFormat::Text => write_text(unapplied.until, rows, target),
-        ListFormat::Csv => write_csv(rows, target),
-        ListFormat::Json => write_json(rows, target),
+        ListFormat::Csv => write_csv("", rows, target),
+        ListFormat::Json => write_json("", rows, &[], target),
     }
 }

@@ -5,7 +5,9 @@ use Rattle.std.specs.Prelude.{filter}
 use Rattle.std.specs.List.{enumerate_from, flat_map}
 use Rattle.ftd_csv.specs.Fields.{numbered_field}
 use Rattle.ftd_csv.specs.Places.{Advances, fields_at, number_of, rows_after, said_at, sheet_of}
-use Rattle.ftd_csv.specs.Records.{SaidEntry, entry_in, malformed}
+use Rattle.ftd_csv.specs.Records.{entry_in}
+use Rattle.ftd_csv.specs.declared.entries.Content.{Content}
+use Rattle.ftd_csv.specs.declared.entries.Content.TheVariants as content
 use Rattle.ftd_csv.specs.declared.reading.Records.{Records}
 use Rattle.ftd_csv.specs.declared.sheets.Sheet.{Sheet}
 use Rattle.ftd_csv.specs.Hints.{is_malformed, row_hint, said_hint, text_hint}
@@ -32,14 +34,14 @@ none_left most records e =
     (number_of records + 1) rows) e ∙ none_among (sheet_of records) most (number_of records + 1)
 
 bad_first : (kind : Sheet) (most number field : ℕ) (fields : List (List ℕ))
-    (rows : List (List (List ℕ))) → entry_in kind fields ≡ malformed field
+    (rows : List (List (List ℕ))) → entry_in kind fields ≡ content.Malformed field
     → hints_among kind (suc most) number (fields ∷ rows)
     ≡ text_hint kind number fields field (numbered_field fields field)
     ++ hints_among kind most (number + 1) rows
 bad_first kind most number field fields rows e =
     let hint : row_hint kind (number, fields)
     ≡ text_hint kind number fields field (numbered_field fields field) =
-    ap (λ (said : SaidEntry). said_hint kind number fields said) e in
+    ap (λ (said : Content). said_hint kind number fields said) e in
     rw e (ap (λ (text : List ℕ). text ++ hints_among kind most (number + 1) rows) hint)
 
 -- what is left before a record is what is left with it
@@ -55,7 +57,7 @@ with_first most old new goes =
     (sym goes.number)
 
 pub past_bad : (most left field : ℕ) (old new : Records) → Advances old new
-    → said_at new ≡ malformed field → most ≡ suc left
+    → said_at new ≡ content.Malformed field → most ≡ suc left
     → hints_left most old
     ≡ text_hint (sheet_of new) (number_of new) (fields_at new) field
     (numbered_field (fields_at new) field) ++ hints_left left new

@@ -1,8 +1,8 @@
 -- What the records that are left say, from one to the next.
 use Rattle.std.proofs.Common.{◌≡◌, ◌∙◌, ◌∷◌, ℕ, List, map, ap, sym, refl}
 use Rattle.ftd_csv.specs.Places.{Advances, Opens, fields_at, place_of, records_left, rows_after}
-use Rattle.ftd_csv.specs.Places.{run_at, runs_left, said_at, said_left, sheet_of}
-use Rattle.ftd_csv.specs.Records.{entry_in, numbered_from, records_of, run_in, run_records}
+use Rattle.ftd_csv.specs.Places.{said_at, said_left, sheet_of}
+use Rattle.ftd_csv.specs.Records.{entry_in, numbered_from, records_of}
 use Rattle.ftd_csv.specs.declared.reading.Records.{Records}
 use Rattle.ftd_csv.specs.declared.sheets.Sheet.{Sheet}
 
@@ -14,9 +14,6 @@ said_next old new goes =
     ∙ ap (λ (kind : Sheet). entry_in kind (fields_at new) ∷ map (entry_in kind) (rows_after new))
     (sym goes.sheet)
 
-pub runs_next : (old new : Records) → Advances old new → runs_left old ≡ run_at new ∷ runs_left new
-runs_next old new goes = ap (λ (rows : List (List (List ℕ))). map run_in rows) goes.rows
-
 pub records_next : (old new : Records) → Advances old new
     → records_left old ≡ place_of new ∷ records_left new
 records_next old new goes = rw (said_next old new goes, goes.number) refl
@@ -25,11 +22,6 @@ records_next old new goes = rw (said_next old new goes, goes.number) refl
 pub said_first : (kind : Sheet) (text : List ℕ) (records : Records) → Opens kind text records
     → said_left records ≡ records_of kind text
 said_first kind text records opens = rw (opens.sheet, opens.rows) refl
-
-pub runs_first : (kind : Sheet) (text : List ℕ) (records : Records) → Opens kind text records
-    → runs_left records ≡ run_records text
-runs_first kind text records opens =
-    ap (λ (rows : List (List (List ℕ))). map run_in rows) opens.rows
 
 pub records_first : (kind : Sheet) (text : List ℕ) (records : Records) → Opens kind text records
     → records_left records ≡ numbered_from 2 (records_of kind text)

@@ -6,8 +6,10 @@ use Rattle.std.specs.Fmt.{decimal}
 use Rattle.std.specs.List.{concat, enumerate_from, flat_map}
 use Rattle.ftd_csv.specs.Answers.{most_bytes}
 use Rattle.ftd_csv.specs.Fields.{numbered_field}
-use Rattle.ftd_csv.specs.Records.{SaidEntry, enters, entry_in, malformed, record_rows, rows_of}
+use Rattle.ftd_csv.specs.Records.{entry_in, record_rows, rows_of}
 use Rattle.ftd_csv.specs.Sheets.{header_row, width_of}
+use Rattle.ftd_csv.specs.declared.entries.Content.{Content}
+use Rattle.ftd_csv.specs.declared.entries.Content.TheVariants as content
 use Rattle.ftd_csv.specs.declared.sheets.Sheet.{Sheet}
 use Rattle.ftd_csv.specs.FieldHints.{asked_in, field_name}
 use Rattle.ftd_csv.specs.Shown.{shown}
@@ -42,18 +44,18 @@ abbrev pub text_hint : Sheet → ℕ → List (List ℕ) → ℕ → Option (Lis
 text_hint kind number fields field None = width_hint kind number (length fields)
 text_hint kind number fields field (Some text) = field_hint kind number field text
 
-abbrev pub said_hint : Sheet → ℕ → List (List ℕ) → SaidEntry → List ℕ
-said_hint kind number fields (enters it) = []
-said_hint kind number fields (malformed field) =
+abbrev pub said_hint : Sheet → ℕ → List (List ℕ) → Content → List ℕ
+said_hint kind number fields (content.Entry it) = []
+said_hint kind number fields (content.Malformed field) =
     text_hint kind number fields field (numbered_field fields field)
 
 -- the hint of a row, which is none where it enters something
 abbrev pub row_hint : Sheet → Numbered → List ℕ
 row_hint kind (number, fields) = said_hint kind number fields (entry_in kind fields)
 
-abbrev pub is_bad : SaidEntry → Bool
-is_bad (enters it) = false
-is_bad (malformed field) = true
+abbrev pub is_bad : Content → Bool
+is_bad (content.Entry it) = false
+is_bad (content.Malformed field) = true
 
 abbrev pub is_malformed : Sheet → Numbered → Bool
 is_malformed kind (number, fields) = is_bad (entry_in kind fields)

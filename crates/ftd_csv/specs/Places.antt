@@ -2,9 +2,9 @@
 use Rattle.std.specs.Prelude.{◌≡◌, ◌<◌, ◌≤◌, ◌+◌, ◌^◌, ◌∷◌, ℕ, List, length, map}
 use Rattle.csv.specs.Records.{fields_of}
 use Rattle.ftd_csv.specs.Answers.{most_bytes}
-use Rattle.ftd_csv.specs.Records.{HasHeader, SaidEntry, SaidRun, entry_in}
-use Rattle.ftd_csv.specs.Records.{numbered_from, record_rows, run_in}
+use Rattle.ftd_csv.specs.Records.{HasHeader, entry_in, numbered_from, record_rows}
 use Rattle.ftd_csv.specs.Rows.{IsReading, rows_left}
+use Rattle.ftd_csv.specs.declared.entries.Content.{Content}
 use Rattle.ftd_csv.specs.declared.reading.Records.{Records}
 use Rattle.ftd_csv.specs.declared.sheets.Sheet.{Sheet}
 
@@ -23,25 +23,18 @@ abbrev pub rows_after : Records → List (List (List ℕ))
 rows_after records = rows_left records.reader
 
 -- what that record says, and what those after it say
-abbrev pub said_at : Records → SaidEntry
+abbrev pub said_at : Records → Content
 said_at records = entry_in (sheet_of records) (fields_at records)
 
-abbrev pub said_left : Records → List SaidEntry
+abbrev pub said_left : Records → List Content
 said_left records = map (entry_in (sheet_of records)) (rows_after records)
 
 -- each with its number
-abbrev pub place_of : Records → ℕ × SaidEntry
+abbrev pub place_of : Records → ℕ × Content
 place_of records = (number_of records, said_at records)
 
-abbrev pub records_left : Records → List (ℕ × SaidEntry)
+abbrev pub records_left : Records → List (ℕ × Content)
 records_left records = numbered_from (number_of records + 1) (said_left records)
-
--- what they say of pay runs
-abbrev pub run_at : Records → SaidRun
-run_at records = run_in (fields_at records)
-
-abbrev pub runs_left : Records → List SaidRun
-runs_left records = map run_in (rows_after records)
 
 -- it may be asked for the next record
 pub record CanAdvance (records : Records) : Type 0 where

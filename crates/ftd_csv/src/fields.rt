@@ -1,16 +1,18 @@
-//! What the fields of a record spell.
+//! The fields of a record as a source of the fields of its verb.
 
-ghost use Rattle.std.specs.Prelude.{◌≡◌, ◌∷◌, option_and_then, option_map};
-ghost use Rattle.csv.specs.Records.{field_at, fields_of};
-ghost use Rattle.ftd_days.specs.Spelling.{cents_of, day_of};
-ghost use Rattle.ftd_csv.specs.Fields.{flag_of, form_of, name_of, period_of, run_number_of};
-ghost use Rattle.ftd_csv.specs.Fields.{year_of};
+ghost use Rattle.std.specs.Prelude.{◌≡◌, option_map};
+ghost use Rattle.csv.specs.Records.{fields_of};
+ghost use Rattle.ftd_csv.specs.Fields.{flag_of, form_of, name_of, numbered_field, run_number_of};
+ghost use Rattle.ftd_csv.specs.Fields.{said_in, spelled, text_in, verb_of, whole_of, year_of};
 
+use crate::Sheet;
 use csv::ByteRecord;
 use ftd_days::digits::number;
 use ftd_days::{Cents, Day, Quarter};
-use ftd_machine::ReturnPeriod;
+use ftd_machine::{AccountName, Days};
 use ftd_rules::{Form, is_account_name};
+use ftd_verbs::{Field, Fields, Verb};
+use std::alloc::{AllocError, Global};
 
 /// The text as the name of an account, if it is one.
 #[tactic(auto, using(crate::proofs::Names::name_is_text), unfolding(crate::specs::Fields::name_of))]
@@ -77,65 +79,109 @@ fn year(text: &[u8]) -> Option<u32>
     number(text)
 }
 
-/// The quarter, or the year, that the text spells.
-#[tactic(auto, unfolding(crate::specs::Fields::period_of))]
-fn period(text: &[u8]) -> Option<ReturnPeriod>
-    ensures { result ≡ period_of text.now }
+/// The year, or the number of a pay run or of a payment, that the text spells.
+fn whole_number(field: Field, text: &[u8]) -> Option<u32>
+    ensures { result ≡ whole_of field text.now }
 {
-    if let Some(quarter) = Quarter::read(text) {
-        return Some(ReturnPeriod::Quarter(quarter));
+    match field {
+        Field::Year => year(text),
+        _ => run_number(text),
     }
-    let year = year(text)?;
-    Some(ReturnPeriod::Year(year))
 }
 
-/// The name of an account in the field at a place, which counts from 0.
-pub fn name_at(row: &ByteRecord, place: usize) -> Option<&str>
-    ensures { option_map (λ name. name.now) result
-        ≡ option_and_then name_of (field_at (fields_of row.now) place) }
+/// The field of a row by its number, which counts from 1. None where the row has no such field.
+pub fn numbered_field(row: &ByteRecord, number: u8) -> Option<&[u8]>
+    ensures { option_map (λ text. text.now) result ≡ numbered_field (fields_of row.now) number }
 {
-    account_name(row.get(place)?)
+    let place = number.checked_sub(1)?;
+    row.get(usize::from(place))
 }
 
-/// The number of a pay run or of a payment in the field at a place.
-pub fn number_at(row: &ByteRecord, place: usize) -> Option<u32>
-    ensures { result ≡ option_and_then run_number_of (field_at (fields_of row.now) place) }
-{
-    run_number(row.get(place)?)
+/// The fields of a record as a source of those of its verb.
+#[derive(Clone, Copy)]
+pub struct RecordFields<'r> {
+    /// What the record is one of.
+    pub sheet: Sheet,
+    /// Its fields, as many as the header has.
+    pub row: &'r ByteRecord,
 }
 
-/// The day in the field at a place.
-pub fn day_at(row: &ByteRecord, place: usize) -> Option<Day>
-    ensures { result ≡ option_and_then day_of (field_at (fields_of row.now) place) }
-{
-    Day::read(row.get(place)?)
+impl<'r> RecordFields<'r> {
+    /// The text of the column that gives the field, if one does.
+    fn text(&self, field: Field) -> Option<&'r [u8]>
+        ensures { option_map (λ text. text.now) result
+            ≡ text_in self.now.sheet (fields_of self.now.row.now) field }
+    {
+        numbered_field(self.row, self.sheet.column_of(field))
+    }
+
+    /// The name of an account that the column spells.
+    fn name(&self, field: Field) -> Option<&'r str>
+        ensures { option_map (λ name. name.now) result
+            ≡ spelled name_of self.now.sheet (fields_of self.now.row.now) field }
+    {
+        account_name(self.text(field)?)
+    }
+
+    /// What the record asks for. A total is one of a quarter, or of a year where its period spells
+    /// no quarter.
+    pub fn verb(&self) -> Verb
+        ensures { result
+            ≡ verb_of self.now.sheet (said_in self.now.sheet (fields_of self.now.row.now)) }
+    {
+        match self.sheet {
+            Sheet::Runs => Verb::Post,
+            Sheet::Accounts => Verb::Enrol,
+            Sheet::Totals if self.quarter(Field::Quarter).is_some() => Verb::Report,
+            Sheet::Totals => Verb::ReportYear,
+            Sheet::Payments => Verb::Pay,
+        }
+    }
 }
 
-/// The amount in the field at a place.
-pub fn cents_at(row: &ByteRecord, place: usize) -> Option<Cents>
-    ensures { option_map (λ amount. amount.0) result
-        ≡ option_and_then cents_of (field_at (fields_of row.now) place) }
-{
-    Cents::read(row.get(place)?)
-}
+impl Fields for RecordFields<'_> {
+    ghost said = { λ it. said_in it.sheet (fields_of it.row.now) };
 
-/// What `yes` or `no` says in the field at a place.
-pub fn flag_at(row: &ByteRecord, place: usize) -> Option<bool>
-    ensures { result ≡ option_and_then flag_of (field_at (fields_of row.now) place) }
-{
-    flag(row.get(place)?)
-}
+    fn is_left_out(&self, field: Field) -> bool {
+        self.text(field).is_none()
+    }
 
-/// The form in the field at a place.
-pub fn form_at(row: &ByteRecord, place: usize) -> Option<Form>
-    ensures { result ≡ option_and_then form_of (field_at (fields_of row.now) place) }
-{
-    form(row.get(place)?)
-}
+    fn account(&self, alloc: Global, field: Field) -> Result<Option<AccountName>, AllocError> {
+        match self.name(field) {
+            Some(name) => Ok(Some(AccountName::copied(alloc, name)?)),
+            None => Ok(None),
+        }
+    }
 
-/// The quarter or the year in the field at a place.
-pub fn period_at(row: &ByteRecord, place: usize) -> Option<ReturnPeriod>
-    ensures { result ≡ option_and_then period_of (field_at (fields_of row.now) place) }
-{
-    period(row.get(place)?)
+    fn whole(&self, field: Field) -> Option<u32> {
+        whole_number(field, self.text(field)?)
+    }
+
+    fn day(&self, field: Field) -> Option<Day> {
+        Day::read(self.text(field)?)
+    }
+
+    fn quarter(&self, field: Field) -> Option<Quarter> {
+        Quarter::read(self.text(field)?)
+    }
+
+    fn amount(&self, field: Field) -> Option<Cents> {
+        Cents::read(self.text(field)?)
+    }
+
+    fn mark(&self, field: Field) -> Option<bool> {
+        flag(self.text(field)?)
+    }
+
+    fn answer(&self, field: Field) -> Option<bool> {
+        flag(self.text(field)?)
+    }
+
+    fn form(&self, field: Field) -> Option<Form> {
+        form(self.text(field)?)
+    }
+
+    fn days(&self, _: Global, _: Field) -> Result<Option<Days>, AllocError> {
+        Ok(None)
+    }
 }

@@ -12,9 +12,7 @@ mod rows;
 mod sheets;
 mod shown;
 
-pub use crate::entries::{
-    Content, EmployerAccount, EmployerPayment, EmployerRun, EmployerTotal, SheetEntry,
-};
+pub use crate::entries::Content;
 pub use crate::headers::write_header_hint;
 pub use crate::reading::{MOST_BYTES, RecordFault, Records};
 pub use crate::records::{HintFault, write_record_hints};

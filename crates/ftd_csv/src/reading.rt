@@ -1,12 +1,13 @@
 //! The records of a text, one at a time.
 
 ghost use Rattle.std.specs.Prelude.{◌≡◌, [], IfOk, MatchBool, MatchResult, length, option_map};
-ghost use Rattle.ftd_csv.specs.Answers.{RecordsFail, entry_said, run_said};
+ghost use Rattle.ftd_csv.specs.Answers.{RecordsFail};
 ghost use Rattle.ftd_csv.specs.Fields.{numbered_field};
 ghost use Rattle.ftd_csv.specs.Places.{CanAdvance, Advances, Opens, fields_at, number_of};
-ghost use Rattle.ftd_csv.specs.Places.{rows_after, run_at, said_at, sheet_of};
+ghost use Rattle.ftd_csv.specs.Places.{rows_after, said_at, sheet_of};
 
-use crate::entries::{Content, EmployerRun, SheetEntry, read_entry, read_run};
+use crate::entries::{Content, read_entry};
+use crate::fields::numbered_field;
 use crate::rows::{next_row, open_rows};
 use crate::sheets::{Sheet, is_header};
 use csv::{ByteRecord, Reader};
@@ -117,18 +118,11 @@ impl<'a> Records<'a> {
         self.number
     }
 
-    /// What the record at which it stands says, as one of its sheet.
-    pub fn entry(&self) -> Content<SheetEntry<'_>>
-        ensures { entry_said result ≡ said_at self.now }
+    /// What the record at which it stands says. An error if there is no memory.
+    pub fn entry(&self, alloc: Global) -> Result<Content, AllocError>
+        ensures { IfOk result (λ content. content ≡ said_at self.now) }
     {
-        read_entry(self.sheet, &self.row)
-    }
-
-    /// What the record at which it stands says, as one of pay runs.
-    pub fn run(&self) -> Content<EmployerRun<'_>>
-        ensures { run_said result ≡ run_at self.now }
-    {
-        read_run(&self.row)
+        read_entry(alloc, self.sheet, &self.row)
     }
 
     /// How many fields the record at which it stands has.
@@ -144,8 +138,7 @@ impl<'a> Records<'a> {
         ensures { option_map (λ text. text.now) result
             ≡ numbered_field (fields_at self.now) number }
     {
-        let place = number.checked_sub(1)?;
-        self.row.get(usize::from(place))
+        numbered_field(&self.row, number)
     }
 
     /// How many records come after the one at which it stands.

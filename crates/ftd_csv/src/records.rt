@@ -70,7 +70,7 @@ pub fn write_record_hints<W: Target>(
     ensures fault { result ≡ Err HintFault.Write → W.failed target.new ≡ true }
 {
     match Records::open(alloc, sheet, text) {
-        Ok(records) => write_hints_of(records, most, target),
+        Ok(records) => write_hints_of(alloc, records, most, target),
         Err(RecordFault::BadHeader) => Ok(()),
         Err(RecordFault::TooLong) => Ok(()),
         Err(RecordFault::Memory) => Err(HintFault::Memory),
@@ -79,6 +79,7 @@ pub fn write_record_hints<W: Target>(
 
 /// Writes the hints of the first malformed records after the one at which it stands.
 fn write_hints_of<W: Target>(
+    alloc: Global,
     mut records: Records<'_>,
     most: usize,
     target: &mut W,
@@ -92,7 +93,7 @@ fn write_hints_of<W: Target>(
 {
     let mut left = most;
     while left > 0 && records.advance()? {
-        if let Content::Malformed(field) = records.entry() {
+        if let Content::Malformed(field) = records.entry(alloc)? {
             write_hint(&records, field, target)?;
             left -= 1;
         }

@@ -3,9 +3,10 @@
 ghost use Rattle.std.specs.Prelude.{◌≡◌, ◌↔◌, IsTrue, Some, map, option_map};
 ghost use Rattle.csv.specs.Records.{field_at, fields_of};
 ghost use Rattle.ftd_csv.specs.Fields.{numbered_field};
-ghost use Rattle.ftd_csv.specs.Sheets.{header_row, width_of};
+ghost use Rattle.ftd_csv.specs.Sheets.{column_of, header_row, width_of};
 
 use csv::ByteRecord;
+use ftd_verbs::Field;
 
 /// What the records of a text are. The first record of a text, its header, names their fields.
 #[derive(Clone, Copy, Debug, PartialEq, Eq)]
@@ -49,6 +50,32 @@ impl Sheet {
     {
         let place = number.checked_sub(1)?;
         self.columns().get(usize::from(place)).copied()
+    }
+
+    /// The number of the column that gives a field of what its records ask for, which counts from
+    /// 1. It is 0 where no column does. The period of a total is its quarter or its year.
+    #[tactic(auto, unfolding(crate::specs::Sheets::column_of))]
+    pub fn column_of(self, field: Field) -> u8
+        ensures { result ≡ column_of self field }
+    {
+        match (self, field) {
+            (_, Field::Account) => 1,
+            (Sheet::Runs, Field::Run) => 2,
+            (Sheet::Runs, Field::Payday) => 3,
+            (Sheet::Runs, Field::Fit) => 4,
+            (Sheet::Runs, Field::Ss) => 5,
+            (Sheet::Runs, Field::Medicare) => 6,
+            (Sheet::Accounts, Field::Start) => 2,
+            (Sheet::Accounts, Field::Carried) => 3,
+            (Sheet::Accounts, Field::Form) => 4,
+            (Sheet::Totals, Field::Quarter | Field::Year) => 2,
+            (Sheet::Totals, Field::Amount) => 3,
+            (Sheet::Payments, Field::Payment) => 2,
+            (Sheet::Payments, Field::Paid) => 3,
+            (Sheet::Payments, Field::For) => 4,
+            (Sheet::Payments, Field::Amount) => 5,
+            _ => 0,
+        }
     }
 }
 

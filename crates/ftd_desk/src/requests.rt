@@ -5,7 +5,6 @@ ghost use Rattle.ftd_store.specs.Finds.{CountsRuns, CountsPayments};
 ghost use Rattle.ftd_store.specs.Frame.{Calls};
 ghost use Rattle.ftd_machine.specs.declared.requests.Request.TheVariants.{Correct, Enter, Pay};
 ghost use Rattle.ftd_machine.specs.declared.requests.Request.TheVariants.{Post};
-ghost use Rattle.ftd_machine.specs.declared.requests.Correction.TheVariants as corrections;
 ghost use Rattle.ftd_entries.specs.Words.{Serves};
 ghost use Rattle.ftd_posting.specs.Repaired.{Becoming, PostsRun, Repairs};
 ghost use Rattle.ftd_desk.specs.Counted.{Knows, ServesCounted};
@@ -15,12 +14,9 @@ ghost use Rattle.ftd_desk.specs.Shown.{ShowsFor};
 use crate::answering::ask;
 use crate::counts::Counts;
 use crate::kept::Kept;
-use ftd_days::Cents;
-use ftd_entries::{
-    correct_account, enrol, open_year, pay, report, report_year, take_calendar, void_payment,
-};
-use ftd_machine::{Answer, Correction, Entry, Request, ReturnPeriod};
-use ftd_posting::{add_holiday, change_holiday, correct_report, correct_report_year, post, void};
+use ftd_entries::{correct_account, enrol, open_year, pay, report, take_calendar, void_payment};
+use ftd_machine::{Answer, Correction, Entry, Request};
+use ftd_posting::{add_holiday, change_holiday, correct_total, post, void};
 use ftd_rules::{PayRun, Payment};
 use ftd_store::{StoreFault, Tx};
 use sqlite::Alter;
@@ -107,14 +103,9 @@ fn enter<S: Alter>(tx: &mut Tx<'_, S>, alloc: Global, entry: &Entry) -> Result<A
         Entry::Holiday { day } => add_holiday(tx, alloc, *day),
         Entry::Total {
             account,
-            period: ReturnPeriod::Quarter(quarter),
+            period,
             cents,
-        } => report(tx, alloc, account.as_str(), *quarter, *cents),
-        Entry::Total {
-            account,
-            period: ReturnPeriod::Year(year),
-            cents,
-        } => report_year(tx, alloc, account.as_str(), *year, *cents),
+        } => report(tx, alloc, account.as_str(), period, *cents),
         Entry::Year { account, year } => open_year(tx, alloc, account.as_str(), *year),
     }
 }
@@ -136,35 +127,13 @@ fn correct<S: Alter>(
             account,
             period,
             cents,
-        } => correct_total(tx, alloc, account.as_str(), *period, number, *cents),
+        } => correct_total(tx, alloc, account.as_str(), period, number, *cents),
         Correction::Holiday { day, is_holiday } => {
             change_holiday(tx, alloc, *day, number, *is_holiday)
         }
         Correction::Account { account, beginning } => {
             correct_account(tx, alloc, account.as_str(), number, *beginning)
         }
-    }
-}
-
-/// Puts right the total that an account reported for a quarter or a year.
-#[tactic(auto, unfolding(ftd_posting::specs::Repaired::Repairs))]
-fn correct_total<S: Alter>(
-    tx: &mut Tx<'_, S>,
-    alloc: Global,
-    name: &str,
-    period: ReturnPeriod,
-    number: u32,
-    cents: Cents,
-) -> Result<Answer, StoreFault>
-    ensures call { Calls S.Store tx.old tx.new result
-        (Serves (Correct number (corrections.Total name.now period cents))) }
-    ensures repairs { Calls S.Store tx.old tx.new result (λ answer before after.
-        Repairs (Correct number (corrections.Total name.now period cents))
-        answer before.now after.now) }
-{
-    match period {
-        ReturnPeriod::Quarter(quarter) => correct_report(tx, alloc, name, quarter, number, cents),
-        ReturnPeriod::Year(year) => correct_report_year(tx, alloc, name, year, number, cents),
     }
 }
 

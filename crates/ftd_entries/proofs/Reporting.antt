@@ -8,16 +8,17 @@ use Rattle.ftd_store.specs.Finds.{FindsReported, FindsReportedYear}
 use Rattle.ftd_machine.specs.declared.entries.Account.{Account}
 use Rattle.ftd_machine.specs.declared.requests.Request.TheVariants.{Enter}
 use Rattle.ftd_machine.specs.declared.requests.Entry.TheVariants as entry
+use Rattle.ftd_machine.specs.declared.entries.ReturnPeriod.{ReturnPeriod}
 use Rattle.ftd_machine.specs.declared.entries.ReturnPeriod.TheVariants.{Quarter, Year}
 use Rattle.ftd_machine.specs.declared.replies.Reply.TheVariants.{Done}
 use Rattle.ftd_machine.specs.State.{State, Entry, entries_of, is_of, kept_at}
 use Rattle.ftd_machine.specs.Checks.{Answer, first_of}
-use Rattle.ftd_machine.specs.Requests.{report_checks, report_year_checks}
+use Rattle.ftd_machine.specs.Requests.{report_checks}
 use Rattle.ftd_machine.specs.Step.{Step, with_entry}
 use Rattle.ftd_machine.specs.Sound.{IsSound}
 use Rattle.ftd_machine.proofs.Deciding.{decided, passed}
 use Rattle.ftd_entries.specs.Standing.{StandsFor, quarter_entry, year_entry}
-use Rattle.ftd_entries.specs.Known.{KnowsAccount}
+use Rattle.ftd_entries.specs.Known.{FindsTotal, KnowsAccount, with_total_row}
 use Rattle.ftd_entries.proofs.Reading.{Both}
 use Rattle.ftd_entries.proofs.Kept.{kept_reported, kept_reported_year}
 use Rattle.ftd_entries.proofs.Entered.{entered, row_more}
@@ -35,9 +36,9 @@ module _ (name : List ℕ) (quarter : ℕ) (cents : Cents) where
   -- the checks of what is kept are those of what was read
   checks_are : (known : Option Account × Option Cents) (t : Tables) (s : State) → StandsFor t s
       → Knows known t
-      → first_of (report_checks name quarter cents (entries_of s name).account
+      → first_of (report_checks name (Quarter quarter) cents (entries_of s name).account
       (kept_at quarter (entries_of s name).reported)) ≡ first_of
-      (report_checks name quarter cents known.0 known.1)
+      (report_checks name (Quarter quarter) cents known.0 known.1)
   checks_are known t s stands knows =
       rw (knows.0 s stands, kept_reported name t s stands quarter known.1 knows.1) refl
 
@@ -65,20 +66,20 @@ module _ (name : List ℕ) (quarter : ℕ) (cents : Cents) where
       }
 
   -- a check decides
-  pub report_decided : (known : Option Account × Option Cents) (answer : Answer)
-      → first_of (report_checks name quarter cents known.0 known.1) ≡ Some answer
+  quarter_decided : (known : Option Account × Option Cents) (answer : Answer)
+      → first_of (report_checks name (Quarter quarter) cents known.0 known.1) ≡ Some answer
       → (t : Tables) (s : State) → StandsFor t s → IsSound s → Knows known t
       → Step s (Enter (entry.Total name (Quarter quarter) cents)) answer s
-  report_decided known answer is t s stands sound knows = decided _ s answer _
+  quarter_decided known answer is t s stands sound knows = decided _ s answer _
       (checks_are known t s stands knows ∙ is)
 
   -- all checks pass
-  pub report_done : (known : Option Account × Option Cents)
-      → first_of (report_checks name quarter cents known.0 known.1) ≡ None
+  quarter_done : (known : Option Account × Option Cents)
+      → first_of (report_checks name (Quarter quarter) cents known.0 known.1) ≡ None
       → (t : Tables) (s : State) → StandsFor t s → IsSound s → Knows known t
       → (next : State) × Step s (Enter (entry.Total name (Quarter quarter) cents)) (Ok Done) next
       × StandsFor (with_reported name quarter cents t) next
-  report_done known is t s stands sound knows = (
+  quarter_done known is t s stands sound knows = (
     Next s,
     passed _ s (Ok Done) (Next s) _ (checks_are known t s stands knows ∙ is)
         (refl, refl),
@@ -96,9 +97,9 @@ module _ (name : List ℕ) (year : ℕ) (cents : Cents) where
 
   year_checks_are : (known : Option Account × Option Cents) (t : Tables) (s : State) → StandsFor t s
       → KnowsYears known t
-      → first_of (report_year_checks name year cents (entries_of s name).account
+      → first_of (report_checks name (Year year) cents (entries_of s name).account
       (kept_at year (entries_of s name).reported_years)) ≡ first_of
-      (report_year_checks name year cents known.0 known.1)
+      (report_checks name (Year year) cents known.0 known.1)
   year_checks_are known t s stands knows =
       rw (knows.0 s stands, kept_reported_year name t s stands year known.1 knows.1) refl
 
@@ -126,21 +127,44 @@ module _ (name : List ℕ) (year : ℕ) (cents : Cents) where
             }) (stands.settled other);
       }
 
-  pub report_year_decided : (known : Option Account × Option Cents) (answer : Answer)
-      → first_of (report_year_checks name year cents known.0 known.1) ≡ Some answer
+  year_decided : (known : Option Account × Option Cents) (answer : Answer)
+      → first_of (report_checks name (Year year) cents known.0 known.1) ≡ Some answer
       → (t : Tables) (s : State) → StandsFor t s → IsSound s → KnowsYears known t
       → Step s (Enter (entry.Total name (Year year) cents)) answer s
-  report_year_decided known answer is t s stands sound knows = decided _ s answer _
+  year_decided known answer is t s stands sound knows = decided _ s answer _
       (year_checks_are known t s stands knows ∙ is)
 
-  pub report_year_done : (known : Option Account × Option Cents)
-      → first_of (report_year_checks name year cents known.0 known.1) ≡ None
+  year_done : (known : Option Account × Option Cents)
+      → first_of (report_checks name (Year year) cents known.0 known.1) ≡ None
       → (t : Tables) (s : State) → StandsFor t s → IsSound s → KnowsYears known t
       → (next : State) × Step s (Enter (entry.Total name (Year year) cents)) (Ok Done) next
       × StandsFor (with_reported_year name year cents t) next
-  report_year_done known is t s stands sound knows = (
+  year_done known is t s stands sound knows = (
     NextYear s,
     passed _ s (Ok Done) (NextYear s) _ (year_checks_are known t s stands knows ∙ is)
         (refl, refl),
     reported_year_stands t s stands,
   )
+
+-- ---- of a quarter or a year
+
+-- a check decides
+pub report_decided : (name : List ℕ) (period : ReturnPeriod) (cents : Cents)
+    (known : Option Account × Option Cents) (answer : Answer)
+    → first_of (report_checks name period cents known.0 known.1) ≡ Some answer
+    → (t : Tables) (s : State) → StandsFor t s → IsSound s
+    → Both (KnowsAccount name) (FindsTotal name period) known t
+    → Step s (Enter (entry.Total name period cents)) answer s
+report_decided name (Quarter quarter) cents = quarter_decided name quarter cents
+report_decided name (Year year) cents = year_decided name year cents
+
+-- all checks pass
+pub report_done : (name : List ℕ) (period : ReturnPeriod) (cents : Cents)
+    (known : Option Account × Option Cents)
+    → first_of (report_checks name period cents known.0 known.1) ≡ None
+    → (t : Tables) (s : State) → StandsFor t s → IsSound s
+    → Both (KnowsAccount name) (FindsTotal name period) known t
+    → (next : State) × Step s (Enter (entry.Total name period cents)) (Ok Done) next
+    × StandsFor (with_total_row name period cents t) next
+report_done name (Quarter quarter) cents = quarter_done name quarter cents
+report_done name (Year year) cents = year_done name year cents

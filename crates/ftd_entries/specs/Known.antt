@@ -7,10 +7,12 @@ use Rattle.ftd_sql.specs.Standing.{Tables}
 use Rattle.ftd_store.specs.declared.account_cells.Account.{Account as StoredAccount}
 use Rattle.ftd_store.specs.declared.correction_cells.AccountCorrection.{AccountCorrection}
 use Rattle.ftd_store.specs.declared.correction_cells.Correction.{Correction}
-use Rattle.ftd_store.specs.Changes.{with_account, with_form}
-use Rattle.ftd_store.specs.Finds.{FindsForm}
+use Rattle.ftd_store.specs.Changes.{with_account, with_form, with_reported, with_reported_year}
+use Rattle.ftd_store.specs.Finds.{FindsForm, FindsReported, FindsReportedYear}
 use Rattle.ftd_machine.specs.declared.entries.Account.{Account}
 use Rattle.ftd_machine.specs.declared.entries.Beginning.{Beginning}
+use Rattle.ftd_machine.specs.declared.entries.ReturnPeriod.{ReturnPeriod}
+use Rattle.ftd_machine.specs.declared.entries.ReturnPeriod.TheVariants.{Quarter, Year}
 use Rattle.ftd_machine.specs.State.{State, entries_of, is_open, enrolled_in, moves_in, all_at}
 use Rattle.ftd_machine.specs.State.{figure_at}
 use Rattle.ftd_entries.specs.Standing.{StandsFor, KeepsFigures}
@@ -49,6 +51,19 @@ with_enrolled name a t =
 -- whether the year of the account is open, as each state keeps it for which the tables stand
 abbrev pub KnowsYear : List ℕ → ℕ → Bool → Tables → Type 0
 KnowsYear name year there t = (s : State) → StandsFor t s → is_open (entries_of s name) year ≡ there
+
+-- ---- reported totals
+
+-- the total that an account first reported for a quarter or a year is that of its row, if it has
+-- one
+abbrev pub FindsTotal : List ℕ → ReturnPeriod → Option Cents → Tables → Type 0
+FindsTotal name (Quarter quarter) = FindsReported name quarter
+FindsTotal name (Year year) = FindsReportedYear name year
+
+-- a reported total more
+abbrev pub with_total_row : List ℕ → ReturnPeriod → Cents → Tables → Tables
+with_total_row name (Quarter quarter) = with_reported name quarter
+with_total_row name (Year year) = with_reported_year name year
 
 -- ---- what was put right
 

@@ -6,7 +6,7 @@ ghost use Rattle.ftd_store.specs.Frame.{Reads};
 ghost use Rattle.ftd_entries.specs.Accounts.{AreToldAccounts, KnowsAccounts, is_account_before};
 ghost use Rattle.ftd_entries.specs.Accounts.{kept_account};
 
-use crate::known;
+use crate::known_account;
 use ftd_machine::{Account, AccountName, KeptAccount};
 use ftd_store::{StoreFault, Tx};
 use sqlite::Alter;
@@ -56,7 +56,7 @@ fn accounts_in_force<S: Alter>(
     let named = tx.enrolled(alloc)?;
     let mut rows: Vec<KeptAccount> = Vec::new(alloc);
     for row in &named {
-        let Some(account) = known(tx, alloc, &row.name)? else {
+        let Some(account) = known_account(tx, alloc, &row.name)? else {
             return tx.give_up(StoreFault::Failed);
         };
         if let Err(fault) = add_account(alloc, &row.name, account, &mut rows) {

@@ -17,7 +17,7 @@ use sqlite::Alter;
 use std::alloc::Global;
 
 /// As what an account was enrolled: its first day and whether it was carried, and its form.
-pub fn enrolled<S: Alter>(tx: &mut Tx<'_, S>, name: &str) -> Result<Option<Account>, StoreFault>
+pub fn enrolment<S: Alter>(tx: &mut Tx<'_, S>, name: &str) -> Result<Option<Account>, StoreFault>
     ensures call { Reads S.Store tx.old tx.new result (KnowsEnrolled name.now) }
     ensures form { Reads S.Store tx.old tx.new result (HasForm name.now) }
 {
@@ -28,7 +28,7 @@ pub fn enrolled<S: Alter>(tx: &mut Tx<'_, S>, name: &str) -> Result<Option<Accou
 
 /// What is in force of an account: its first day and whether it was carried, as they were put right
 /// last, and its form.
-pub fn known<S: Alter>(
+pub fn known_account<S: Alter>(
     tx: &mut Tx<'_, S>,
     alloc: Global,
     name: &str,
@@ -62,8 +62,8 @@ pub fn enrol<S: Alter>(
     ensures call { Calls S.Store tx.old tx.new result
         (Serves (Enter (entry.Account name.now account))) }
 {
-    let known = enrolled(tx, name)?;
-    if let Some(answer) = enrol_check(name, &account, known) {
+    let known = enrolment(tx, name)?;
+    if let Err(answer) = enrol_check(name, &account, known) {
         return Ok(answer);
     }
     add(tx, name, account)?;

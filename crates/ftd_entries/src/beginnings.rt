@@ -9,7 +9,7 @@ ghost use Rattle.ftd_entries.specs.Correcting.{KnowsForCorrection, KnowsUnused, 
 ghost use Rattle.ftd_entries.specs.Known.{beginnings_of};
 ghost use Rattle.ftd_entries.specs.Words.{Serves};
 
-use crate::accounts::known;
+use crate::accounts::known_account;
 use ftd_machine::{Account, Answer, Beginning, Reply, correct_account_check};
 use ftd_rules::YearLine;
 use ftd_store::{AccountCorrection, QuarterTotal, StoreFault, Tx, YearTotal};
@@ -72,7 +72,7 @@ fn known_for_correction<S: Alter>(
 ) -> Result<KnownForCorrection, StoreFault>
     ensures call { Reads S.Store tx.old tx.new result (KnowsForCorrection name.now number) }
 {
-    let account = known(tx, alloc, name)?;
+    let account = known_account(tx, alloc, name)?;
     let corrections = tx.account_corrections(alloc, name)?;
     let is_unused = is_unused(tx, alloc, name)?;
     let Ok(count) = u32::try_from(corrections.len()) else {
@@ -121,7 +121,7 @@ pub fn correct_account<S: Alter>(
         before.is_unused,
         before.count,
     );
-    if let Some(answer) = checked {
+    if let Err(answer) = checked {
         return Ok(answer);
     }
     tx.add_account_correction(name, correction_of(number, beginning))?;

@@ -22,7 +22,7 @@ pub fn take_calendar<S: Alter>(
         (Serves (Enter (entry.Calendar year days.now))) }
 {
     let known = tx.calendar(alloc, year)?;
-    if let Some(answer) = calendar_check(year, days, known.as_deref()) {
+    if let Err(answer) = calendar_check(year, days, known.as_deref()) {
         return Ok(answer);
     }
     tx.add_calendar(year, days)?;

@@ -19,13 +19,13 @@ mod return_periods;
 mod years;
 
 pub use crate::account_list::all_accounts;
-pub use crate::accounts::{enrol, enrolled, known};
+pub use crate::accounts::{enrol, enrolment, known_account};
 pub use crate::beginnings::{correct_account, is_unused};
 pub use crate::calendars::take_calendar;
 pub use crate::in_force::{figure, year_figure};
 pub use crate::lookbacks::lookback_total;
 pub use crate::open_years::open_year;
 pub use crate::payments::{pay, void_payment};
-pub use crate::reported::{report, report_year};
+pub use crate::reported::{first_reported, report};
 pub use crate::return_periods::{ReturnFacts, payments_of, return_period};
 pub use crate::years::{has_year, is_open};

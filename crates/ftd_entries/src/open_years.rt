@@ -8,7 +8,7 @@ ghost use Rattle.ftd_machine.specs.declared.requests.Entry.TheVariants as entry;
 ghost use Rattle.ftd_entries.specs.Opening.{IsNextLine, KnowsToOpen, turns_into};
 ghost use Rattle.ftd_entries.specs.Words.{Serves};
 
-use crate::accounts::known;
+use crate::accounts::known_account;
 use crate::lookbacks::lookback_total;
 use crate::years::has_year;
 use ftd_days::Cents;
@@ -40,7 +40,7 @@ fn known_year<S: Alter>(
 ) -> Result<KnownYear, StoreFault>
     ensures call { Reads S.Store tx.old tx.new result (KnowsToOpen name.now year) }
 {
-    let account = known(tx, alloc, name)?;
+    let account = known_account(tx, alloc, name)?;
     let lines = tx.years(alloc, name)?;
     let given = tx.calendar(alloc, year)?;
     let next = tx.calendar(alloc, year.saturating_add(1))?;
@@ -87,13 +87,12 @@ pub fn open_year<S: Alter>(
     let known = known_year(tx, alloc, name, year)?;
     let there = has_year(&known.lines, year);
     let checked = open_year_check(name, year, known.account, there, known.given, known.next);
-    if let Some(answer) = checked {
-        return Ok(answer);
-    }
-    let Some(account) = &known.account else {
-        return Ok(Err(Refusal::UnknownAccount));
+    let account = match checked {
+        Ok(account) => account,
+        Err(answer) => return Ok(answer),
     };
-    let total = match lookback_total(tx, alloc, name, *account, year)? {
+    let carried = account.carried;
+    let total = match lookback_total(tx, alloc, name, account, year)? {
         Ok(total) if total.0 < AMOUNTS_END => total,
         Ok(_) => return tx.give_up(StoreFault::Failed),
         Err(refusal) => return Ok(Err(refusal)),
@@ -101,6 +100,6 @@ pub fn open_year<S: Alter>(
     if !known.lines.is_empty() && !has_year(&known.lines, year - 1) {
         return Ok(Err(Refusal::YearNotOpen(year - 1)));
     }
-    tx.put_year(name, next_line(&known.lines, account.carried, year, total))?;
+    tx.put_year(name, next_line(&known.lines, carried, year, total))?;
     Ok(Ok(Reply::Done))
 }

@@ -7,7 +7,7 @@ ghost use Rattle.ftd_machine.specs.declared.requests.Request.TheVariants.{Pay, V
 ghost use Rattle.ftd_entries.specs.Payments.{KnowsForPay};
 ghost use Rattle.ftd_entries.specs.Words.{Serves};
 
-use crate::accounts::known;
+use crate::accounts::known_account;
 use crate::years::is_open;
 use ftd_days::Day;
 use ftd_machine::{Account, Answer, Reply, pay_check, void_payment_check};
@@ -38,7 +38,7 @@ fn known_for_pay<S: Alter>(
     ensures call { Reads S.Store tx.old tx.new result
         (KnowsForPay name.now number (year_of for_day)) }
 {
-    let account = known(tx, alloc, name)?;
+    let account = known_account(tx, alloc, name)?;
     let payment = tx.payment(name, number)?;
     let is_open = is_open(tx, alloc, name, for_day.year())?;
     Ok(KnownForPay {
@@ -73,7 +73,7 @@ pub fn pay<S: Alter>(
         before.is_open,
         count,
     );
-    if let Some(answer) = checked {
+    if let Err(answer) = checked {
         return Ok(answer);
     }
     tx.add_payment(name, number, payment)?;
@@ -89,9 +89,9 @@ pub fn void_payment<S: Alter>(
 ) -> Result<Answer, StoreFault>
     ensures call { Calls S.Store tx.old tx.new result (Serves (VoidPay name.now number)) }
 {
-    let account = known(tx, alloc, name)?;
+    let account = known_account(tx, alloc, name)?;
     let kept = tx.payment(name, number)?;
-    if let Some(answer) = void_payment_check(name, number, account, kept) {
+    if let Err(answer) = void_payment_check(name, number, account, kept) {
         return Ok(answer);
     }
     tx.void_payment(name, number)?;

@@ -16,10 +16,10 @@ ghost use Rattle.ftd_rules.specs.Laws.{IsFirstCounted};
 use crate::paid::obligation_payments;
 use crate::schedules::schedule_on;
 use ftd_days::{Cents, Day, Holidays};
-use ftd_entries::{has_year, known};
+use ftd_entries::{has_year, known_account};
 use ftd_machine::{
     AccountName, Answer, CountedDay, CountedDays, DayKind, Explained, Explanation, Facts,
-    KeptPayment, KeptPayments, Refusal, Reply, RunningSum, RunningSums, status_check,
+    KeptPayment, KeptPayments, Reply, RunningSum, RunningSums, status_check,
 };
 use ftd_rules::{AMOUNTS_END, DaySum, Form, Obligation, Rule, YearLine, return_due};
 use ftd_store::{StoreFault, Tx};
@@ -38,14 +38,12 @@ pub fn explain<S: Alter>(
     let Ok(owner) = AccountName::copied(alloc, name) else {
         return tx.give_up(StoreFault::Memory);
     };
-    let account = known(tx, alloc, name)?;
+    let account = known_account(tx, alloc, name)?;
     let lines = tx.years(alloc, name)?;
     let there = has_year(&lines, day.year());
-    if let Some(answer) = status_check(name, day, account, there) {
-        return Ok(answer);
-    }
-    let Some(account) = &account else {
-        return Ok(Err(Refusal::UnknownAccount));
+    let account = match status_check(name, day, account, there) {
+        Ok(account) => account,
+        Err(answer) => return Ok(answer),
     };
     let found = explained(tx, alloc, name, account.form, &lines, day)?;
     Ok(Ok(Reply::Told(Facts::Explained(Explained {

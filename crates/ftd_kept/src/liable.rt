@@ -6,7 +6,7 @@ ghost use Rattle.ftd_machine.specs.declared.requests.Request.TheVariants.{Questi
 ghost use Rattle.ftd_entries.specs.Words.{Serves};
 
 use ftd_days::Quarter;
-use ftd_entries::{is_open, known};
+use ftd_entries::{is_open, known_account};
 use ftd_machine::{AccountName, Answer, DaySums, Facts, LiabilityByDay, Reply, schedule_b_check};
 use ftd_store::{StoreFault, Tx};
 use sqlite::Alter;
@@ -25,9 +25,9 @@ pub fn schedule_b<S: Alter>(
     let Ok(owner) = AccountName::copied(alloc, name) else {
         return tx.give_up(StoreFault::Memory);
     };
-    let account = known(tx, alloc, name)?;
+    let account = known_account(tx, alloc, name)?;
     let there = is_open(tx, alloc, name, quarter.year())?;
-    if let Some(answer) = schedule_b_check(name, quarter, account, there) {
+    if let Err(answer) = schedule_b_check(name, quarter, account, there) {
         return Ok(answer);
     }
     let sums = tx.day_sums(alloc, name, quarter.first(), quarter.last())?;

@@ -11,7 +11,7 @@ use crate::holiday_rows::all_holidays;
 use crate::rows::{add_total, told_quarters, told_runs, told_years};
 use crate::year_rows::open_years;
 use ftd_days::Quarter;
-use ftd_entries::{all_accounts, figure, known, year_figure};
+use ftd_entries::{all_accounts, figure, known_account, year_figure};
 use ftd_machine::{
     AccountName, Answer, Facts, KeptAccounts, KeptHolidays, KeptRows, KeptRuns, KeptTotal,
     KeptTotals, KeptYears, Refusal, Reply, holidays_check, kept_in_quarter_check, kept_of_check,
@@ -40,14 +40,12 @@ pub fn years<S: Alter>(tx: &mut Tx<'_, S>, alloc: Global, name: &str) -> Result<
     let Ok(owner) = AccountName::copied(alloc, name) else {
         return tx.give_up(StoreFault::Memory);
     };
-    let found = known(tx, alloc, name)?;
-    if let Some(answer) = kept_of_check(name, found) {
-        return Ok(answer);
-    }
-    let Some(account) = &found else {
-        return Ok(Err(Refusal::UnknownAccount));
+    let found = known_account(tx, alloc, name)?;
+    let account = match kept_of_check(name, found) {
+        Ok(account) => account,
+        Err(answer) => return Ok(answer),
     };
-    let rows = open_years(tx, alloc, name, account)?;
+    let rows = open_years(tx, alloc, name, &account)?;
     Ok(Ok(Reply::Told(Facts::Kept(KeptRows::Years {
         account: owner,
         rows: KeptYears::from_vec(rows),
@@ -141,12 +139,10 @@ pub fn reported<S: Alter>(
     let Ok(owner) = AccountName::copied(alloc, name) else {
         return tx.give_up(StoreFault::Memory);
     };
-    let found = known(tx, alloc, name)?;
-    if let Some(answer) = kept_of_check(name, found) {
-        return Ok(answer);
-    }
-    let Some(account) = &found else {
-        return Ok(Err(Refusal::UnknownAccount));
+    let found = known_account(tx, alloc, name)?;
+    let account = match kept_of_check(name, found) {
+        Ok(account) => account,
+        Err(answer) => return Ok(answer),
     };
     let rows = totals(tx, alloc, name, account.form)?;
     Ok(Ok(Reply::Told(Facts::Kept(KeptRows::Reported {
@@ -166,7 +162,7 @@ pub fn holidays<S: Alter>(
         (Serves (Question (questions.Kept (kept.Holidays year)))) }
 {
     let given = tx.calendar(alloc, year)?;
-    if let Some(answer) = holidays_check(year, given.is_some()) {
+    if let Err(answer) = holidays_check(year, given.is_some()) {
         return Ok(answer);
     }
     let Some(days) = given else {
@@ -193,9 +189,9 @@ pub fn runs<S: Alter>(
     let Ok(owner) = AccountName::copied(alloc, name) else {
         return tx.give_up(StoreFault::Memory);
     };
-    let account = known(tx, alloc, name)?;
+    let account = known_account(tx, alloc, name)?;
     let found = tx.kept_runs(alloc, name, quarter.first(), quarter.last())?;
-    if let Some(answer) = kept_in_quarter_check(name, quarter, account) {
+    if let Err(answer) = kept_in_quarter_check(name, quarter, account) {
         return Ok(answer);
     }
     match told_runs(alloc, &found) {

@@ -9,7 +9,7 @@ ghost use Rattle.ftd_kept.specs.Payments.{KnowsPaymentsOf};
 
 use crate::payment_rows::{told_for, told_payments};
 use ftd_days::{Day, Quarter};
-use ftd_entries::known;
+use ftd_entries::known_account;
 use ftd_machine::{
     AccountName, Answer, Facts, KeptPayment, KeptPayments, KeptRows, Reply, kept_in_quarter_check,
 };
@@ -32,10 +32,10 @@ pub fn payments<S: Alter>(
     let Ok(owner) = AccountName::copied(alloc, name) else {
         return tx.give_up(StoreFault::Memory);
     };
-    let account = known(tx, alloc, name)?;
+    let account = known_account(tx, alloc, name)?;
     let found = tx.kept_payments(alloc, name, quarter.first(), quarter.last())?;
     let owed = tx.obligations(alloc, name, Day::first_of_month(0), quarter.last())?;
-    if let Some(answer) = kept_in_quarter_check(name, quarter, account) {
+    if let Err(answer) = kept_in_quarter_check(name, quarter, account) {
         return Ok(answer);
     }
     match told_payments(alloc, &found, &owed) {

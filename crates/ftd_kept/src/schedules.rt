@@ -14,7 +14,7 @@ ghost use Rattle.ftd_entries.specs.Words.{Serves};
 ghost use Rattle.ftd_kept.specs.Schedules.{AreScheduled, IsScheduleBy, IsStatusBy};
 
 use ftd_days::Day;
-use ftd_entries::{has_year, known};
+use ftd_entries::{has_year, known_account};
 use ftd_machine::{Answer, DaySchedule, Facts, Reason, Refusal, Reply, status_check};
 use ftd_rules::{Kind, YearLine};
 use ftd_store::{StoreFault, Tx};
@@ -39,10 +39,10 @@ pub fn status<S: Alter>(
 ) -> Result<Answer, StoreFault>
     ensures call { Calls S.Store tx.old tx.new result (Serves (Question (Status name.now day))) }
 {
-    let account = known(tx, alloc, name)?;
+    let account = known_account(tx, alloc, name)?;
     let lines = tx.years(alloc, name)?;
     let there = has_year(&lines, day.year());
-    if let Some(answer) = status_check(name, day, account, there) {
+    if let Err(answer) = status_check(name, day, account, there) {
         return Ok(answer);
     }
     Ok(status_by(&lines, day))

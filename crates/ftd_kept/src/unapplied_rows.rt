@@ -283,7 +283,7 @@ pub fn unapplied<S: Alter>(
     ensures call { Calls S.Store tx.old tx.new result (Serves (Question (questions.Unapplied until))) }
 {
     let rows = all_unapplied(tx, alloc, until)?;
-    if let Some(answer) = unapplied_check(until) {
+    if let Err(answer) = unapplied_check(until) {
         return Ok(answer);
     }
     if !are_unapplied_in_order(&rows) {

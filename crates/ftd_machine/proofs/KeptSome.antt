@@ -24,7 +24,7 @@ use Rattle.ftd_machine.specs.State.{figure_at, latest, all_at}
 use Rattle.ftd_machine.specs.History.{form_of, AreLinesOf, HasLookback}
 use Rattle.ftd_machine.specs.Checks.{Answer, first_of}
 use Rattle.ftd_machine.specs.Agenda.{EachToLater}
-use Rattle.ftd_machine.specs.Limits.{is_between}
+use Rattle.ftd_machine.specs.Limits.{can_have_calendar}
 use Rattle.ftd_machine.specs.Told.{kept_answer}
 use Rattle.ftd_machine.specs.Kept.{IsEnrolled, IsAccountBefore, AreAccounts, IsTotal}
 use Rattle.ftd_machine.specs.Kept.{period_of, IsTotalBefore, AreTotals, IsAdded, IsDayBefore}
@@ -423,7 +423,7 @@ payments_some hs own name lines quarter are_lines =
 given_of_holidays : (s : State) (year : ℕ) → first_of (kept_checks s (Holidays year)) ≡ None
     → is_given s year ≡ true
 given_of_holidays s year e =
-    (skip_needs (is_between 2001 2099 year) BadYear _ _
+    (skip_needs (can_have_calendar year) BadYear _ _
     (gives_needs (is_given s year) (CalendarMissing year) [])).fact e
 
 pub kept_told : (s : State) (kept : Kept)

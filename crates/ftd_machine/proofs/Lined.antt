@@ -15,7 +15,7 @@ use Rattle.ftd_rules.proofs.Earlier.{counterpart}
 use Rattle.ftd_rules.proofs.Owing.{obligations_some}
 use Rattle.ftd_rules.proofs.Stated.{rows_stated}
 use Rattle.ftd_rules.proofs.Members.{has_mapped, mapped_has}
-use Rattle.ftd_machine.specs.Limits.{is_between}
+use Rattle.ftd_machine.specs.Limits.{can_be_opened}
 use Rattle.ftd_machine.specs.State.{State, Entries, Entry, entries_of, is_of}
 use Rattle.ftd_machine.specs.History.{form_of, is_carried, live_sums, HasLookback, AreCarried}
 use Rattle.ftd_machine.specs.History.{year_of_line, year_of_entry, AreLinesOf, AreOwed}
@@ -91,7 +91,7 @@ lines_from own (e ∷ es) carried f =
       (refl, rest.3),
     )
 
-pub between_is : (year : ℕ) → is_between 2001 2098 year ≡ true → (2001 ≤ year) × (year ≤ 2098)
+pub between_is : (year : ℕ) → can_be_opened year ≡ true → (2001 ≤ year) × (year ≤ 2098)
 between_is year e = (
   leb-true 2001 year (and_parts (nat_le 2001 year) (nat_le year 2098) e).0,
   leb-true year 2098 (and_parts (nat_le 2001 year) (nat_le year 2098) e).1,

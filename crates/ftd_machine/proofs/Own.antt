@@ -12,10 +12,10 @@ use Rattle.ftd_machine.specs.State.{State, Entries, entries_of, kept_at, is_open
 use Rattle.ftd_machine.specs.State.{account_in_force, all_at, numbered, holidays}
 use Rattle.ftd_machine.specs.History.{HasLookback, LacksFigure}
 use Rattle.ftd_machine.specs.Checks.{Answer, first_of, Decides}
-use Rattle.ftd_machine.specs.Requests.{enrol_checks, report_checks, report_year_checks}
+use Rattle.ftd_machine.specs.Requests.{enrol_checks, report_checks}
 use Rattle.ftd_machine.specs.Requests.{open_year_checks, post_checks, void_checks, pay_checks}
-use Rattle.ftd_machine.specs.Requests.{void_payment_checks, correct_report_checks}
-use Rattle.ftd_machine.specs.Requests.{correct_report_year_checks, correct_account_checks}
+use Rattle.ftd_machine.specs.Requests.{void_payment_checks, correct_total_checks}
+use Rattle.ftd_machine.specs.Requests.{correct_account_checks}
 use Rattle.ftd_machine.specs.Requests.{is_unused}
 use Rattle.ftd_machine.specs.Posting.{IsPosted}
 use Rattle.ftd_machine.specs.Step.{Step, OpensNext, may_open, taken, with_account, with_entry}
@@ -278,12 +278,12 @@ follows s t (Enter (entry.Holiday day)) answer new name named agree step = absur
 follows s t (Enter (entry.Total own (Quarter quarter) cents)) answer new name named agree step =
     let request = Enter (entry.Total own (Quarter quarter) cents) in
     at_name own name s t new _ named agree (λ agrees. done_follows own s t agrees answer new _ _ _ _
-    (ap (λ (e : Entries). first_of (report_checks own quarter cents e.account
+    (ap (λ (e : Entries). first_of (report_checks own (Quarter quarter) cents e.account
     (kept_at quarter e.reported))) agrees.own) (agree_next s t request agrees) step)
 follows s t (Enter (entry.Total own (Year year) cents)) answer new name named agree step =
     let request = Enter (entry.Total own (Year year) cents) in
     at_name own name s t new _ named agree (λ agrees. done_follows own s t agrees answer new _ _ _ _
-    (ap (λ (e : Entries). first_of (report_year_checks own year cents e.account
+    (ap (λ (e : Entries). first_of (report_checks own (Year year) cents e.account
     (kept_at year e.reported_years))) agrees.own) (agree_next s t request agrees) step)
 follows s t (Enter (entry.Year own year)) answer new name named agree step =
     at_name own name s t new _ named agree (λ agrees. open_follows own s t agrees answer new _ _
@@ -320,14 +320,15 @@ follows s t (Correct number (correction.Total own (Quarter quarter) cents)) answ
     let request = Correct number (correction.Total own (Quarter quarter) cents) in
     at_name own name s t new _ named agree (λ agrees. post_follows own s t agrees answer new _ _ _ _
     (quarter_start quarter) (ap (λ (e : Entries). let known = all_at quarter e.corrected in
-    first_of (correct_report_checks own quarter number cents e.account (kept_at quarter e.reported)
-    (numbered number known) (length known))) agrees.own) (agree_next s t request agrees) step)
+    first_of (correct_total_checks own (Quarter quarter) number cents e.account
+    (kept_at quarter e.reported) (numbered number known) (length known))) agrees.own)
+    (agree_next s t request agrees) step)
 follows s t (Correct number (correction.Total own (Year year) cents)) answer new name named agree
     step =
     let request = Correct number (correction.Total own (Year year) cents) in
     at_name own name s t new _ named agree (λ agrees. post_follows own s t agrees answer new _ _ _ _
     (year_start year) (ap (λ (e : Entries). let known = all_at year e.corrected_years in
-    first_of (correct_report_year_checks own year number cents e.account
+    first_of (correct_total_checks own (Year year) number cents e.account
     (kept_at year e.reported_years) (numbered number known) (length known))) agrees.own)
     (agree_next s t request agrees) step)
 follows s t (Correct number (correction.Holiday day is_holiday)) answer new name named agree step =

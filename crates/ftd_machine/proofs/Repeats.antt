@@ -23,10 +23,10 @@ use Rattle.ftd_machine.specs.State.{account_in_force, in_force}
 use Rattle.ftd_machine.specs.History.{form_of}
 use Rattle.ftd_machine.specs.Checks.{Answer, first_of, Decides}
 use Rattle.ftd_machine.specs.Requests.{days_of_year, enrol_checks, calendar_checks}
-use Rattle.ftd_machine.specs.Requests.{add_holiday_checks, report_checks, report_year_checks}
+use Rattle.ftd_machine.specs.Requests.{add_holiday_checks, report_checks}
 use Rattle.ftd_machine.specs.Requests.{open_year_checks, post_checks, void_checks, pay_checks}
-use Rattle.ftd_machine.specs.Requests.{void_payment_checks, correct_report_checks}
-use Rattle.ftd_machine.specs.Requests.{correct_report_year_checks, change_holiday_checks}
+use Rattle.ftd_machine.specs.Requests.{void_payment_checks, correct_total_checks}
+use Rattle.ftd_machine.specs.Requests.{change_holiday_checks}
 use Rattle.ftd_machine.specs.Requests.{correct_account_checks, is_unused}
 use Rattle.ftd_machine.specs.Requests.{same_amount, same_run, same_payment, same_flag}
 use Rattle.ftd_machine.specs.Questions.{question_checks}
@@ -69,10 +69,12 @@ checks_of s (Enter (entry.Account name account)) =
 checks_of s (Enter (entry.Calendar year days)) = calendar_checks year days (calendar_at s year)
 checks_of s (Enter (entry.Holiday day)) = add_holiday_checks day (calendar_at s (year_of day))
     (added_in s (year_of day))
-checks_of s (Enter (entry.Total name (Quarter quarter) cents)) = report_checks name quarter cents
-    (entries_of s name).account (kept_at quarter (entries_of s name).reported)
-checks_of s (Enter (entry.Total name (Year year) cents)) = report_year_checks name year cents
-    (entries_of s name).account (kept_at year (entries_of s name).reported_years)
+checks_of s (Enter (entry.Total name (Quarter quarter) cents)) =
+    report_checks name (Quarter quarter) cents (entries_of s name).account
+    (kept_at quarter (entries_of s name).reported)
+checks_of s (Enter (entry.Total name (Year year) cents)) =
+    report_checks name (Year year) cents (entries_of s name).account
+    (kept_at year (entries_of s name).reported_years)
 checks_of s (Enter (entry.Year name year)) = open_year_checks name year (entries_of s name).account
     (is_open (entries_of s name) year) (is_given s year) (is_given s (year + 1))
 checks_of s (Post name number run) =
@@ -89,11 +91,11 @@ checks_of s (VoidPay name number) = void_payment_checks name number (entries_of 
     (kept_at number (entries_of s name).payments)
 checks_of s (Correct number (correction.Total name (Quarter quarter) cents)) =
     let known = all_at quarter (entries_of s name).corrected in
-    correct_report_checks name quarter number cents (entries_of s name).account
+    correct_total_checks name (Quarter quarter) number cents (entries_of s name).account
     (kept_at quarter (entries_of s name).reported) (numbered number known) (length known)
 checks_of s (Correct number (correction.Total name (Year year) cents)) =
     let known = all_at year (entries_of s name).corrected_years in
-    correct_report_year_checks name year number cents (entries_of s name).account
+    correct_total_checks name (Year year) number cents (entries_of s name).account
     (kept_at year (entries_of s name).reported_years) (numbered number known) (length known)
 checks_of s (Correct number (correction.Holiday day is_holiday)) =
     let known = changes_of day s.changed_days in

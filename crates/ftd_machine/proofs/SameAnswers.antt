@@ -9,7 +9,7 @@ use Rattle.ftd_rules.specs.declared.YearLine.{YearLine}
 use Rattle.ftd_machine.specs.declared.entries.Account.{Account}
 use Rattle.ftd_machine.specs.State.{State, Entries, entries_of, holidays, is_open}
 use Rattle.ftd_machine.specs.History.{AreLinesOf}
-use Rattle.ftd_machine.specs.Limits.{is_between}
+use Rattle.ftd_machine.specs.Limits.{can_be_opened}
 use Rattle.ftd_machine.specs.Checks.{Answer, first_of}
 use Rattle.ftd_machine.specs.Requests.{status_checks, due_list_checks, schedule_b_checks}
 use Rattle.ftd_machine.specs.Requests.{kept_of_checks, kept_in_quarter_checks}
@@ -176,7 +176,7 @@ open_of_status : (name : List ℕ) (day : ℕ) (account : Option Account) (there
     → first_of (status_checks name day account there) ≡ None → there ≡ true
 open_of_status name day account there e =
     (skip_needs (is_account_name name) BadName _ _
-    (skip_needs (is_between 2001 2098 (year_of day)) BadDay _ _
+    (skip_needs (can_be_opened (year_of day)) BadDay _ _
     (skip_finds account UnknownAccount _ _
     (gives_needs there (YearNotOpen (year_of day)) [])))).fact e
 

@@ -20,7 +20,8 @@ use Rattle.ftd_rules.specs.declared.run.PayRun.{PayRun}
 use Rattle.ftd_rules.specs.declared.payment.Payment.{Payment}
 use Rattle.ftd_rules.specs.declared.run.Voidable.{Voidable}
 use Rattle.ftd_rules.proofs.Members.{has_last, has_mapped, has_kept}
-use Rattle.ftd_machine.specs.Limits.{is_between, is_calendar, is_amount, are_amounts}
+use Rattle.ftd_machine.specs.Limits.{can_be_opened, can_have_calendar, is_calendar, is_amount}
+use Rattle.ftd_machine.specs.Limits.{are_amounts}
 use Rattle.ftd_machine.specs.Limits.{is_number, most_entries}
 use Rattle.ftd_machine.specs.State.{State, nothing, Entry, entries_of, is_named, account_of, is_of}
 use Rattle.ftd_machine.specs.State.{has_key, content_of, kept_at, is_open, is_given, calendar_at}
@@ -197,7 +198,7 @@ given_still s year days other e = some_still (calendar_at s other)
     other) (calendar_still s year days other) e
 
 sound_calendar : (s : State) (year : ℕ) (days : List ℕ) → calendar_at s year ≡ None
-    → is_between 2001 2099 year ≡ true → is_calendar year days ≡ true → IsSound s
+    → can_have_calendar year ≡ true → is_calendar year days ≡ true → IsSound s
     → IsSound (record s { calendars = s.calendars ++ record { year = year; days = days } ∷ [] })
 sound_calendar s year days none between fits sound =
     let new : YearDays = record { year = year; days = days } in
@@ -206,9 +207,9 @@ sound_calendar s year days none between fits sound =
     λ c has same. found_none days_of (is_year year) s.calendars none c has
     (ap (λ k. k == year) same ∙ same_key year) in
     let calendars = distinct_more year_of_calendar s.calendars new sound.calendars other in
-    let are_calendars = each_last (λ (g : YearDays). (is_between 2001 2099 g.year ≡ true)
+    let are_calendars = each_last (λ (g : YearDays). (can_have_calendar g.year ≡ true)
     × (is_calendar g.year g.days ≡ true)) s.calendars new sound.are_calendars (between, fits) in
-    let opened : (e : Entry (Unit {0})) → Has s.open_years e → (is_between 2001 2098 e.key ≡ true)
+    let opened : (e : Entry (Unit {0})) → Has s.open_years e → (can_be_opened e.key ≡ true)
     × (is_given after e.key ≡ true) × (is_given after (e.key + 1) ≡ true) =
     λ e has. (let was = sound.opened e has in
     (was.0, given_still s year days e.key was.1, given_still s year days (e.key + 1) was.2)) in
@@ -314,7 +315,7 @@ pub mapped_last : {X Y : Type 0} (f : X → Y) (xs : List X) (x : X) → map f (
 mapped_last f [] x = refl
 mapped_last f (y ∷ xs) x = ap (λ ys. f y ∷ ys) (mapped_last f xs x)
 
-at_least_one : (year : ℕ) → is_between 2001 2098 year ≡ true → 1 ≤ year
+at_least_one : (year : ℕ) → can_be_opened year ≡ true → 1 ≤ year
 at_least_one year e = below year (nat_le 2001 year) refl e
   where
     below : (year : ℕ) (b : Bool) → nat_le 2001 year ≡ b → (b && nat_le year 2098) ≡ true → 1 ≤ year
@@ -357,7 +358,7 @@ open_still s name year other day e =
     (keeps_entry s.open_years name year tt other day) e
 
 sound_open : (s : State) (name : List ℕ) (year : ℕ) → is_some (entries_of s name).account ≡ true
-    → is_between 2001 2098 year ≡ true → is_given s year ≡ true → is_given s (year + 1) ≡ true
+    → can_be_opened year ≡ true → is_given s year ≡ true → is_given s (year + 1) ≡ true
     → (length (entries_of s name).open_years == 0) || is_open (entries_of s name) (year - 1) ≡ true
     → is_open (entries_of s name) year ≡ false
     → (total : Cents) × HasLookback (entries_of s name) year total → IsSound s
@@ -367,7 +368,7 @@ sound_open s name year there between given next first fresh total sound =
     let after : State = record s { open_years = with_entry s.open_years name year tt } in
     let open_years = fresh_entry s.open_years name year tt
     (none_of (kept_at year (entries_of s name).open_years) fresh) sound.open_years in
-    let opened = each_last (λ (x : Entry (Unit {0})). (is_between 2001 2098 x.key ≡ true)
+    let opened = each_last (λ (x : Entry (Unit {0})). (can_be_opened x.key ≡ true)
     × (is_given s x.key ≡ true) × (is_given s (x.key + 1) ≡ true)) s.open_years new sound.opened
     (between, given, next) in
     let enrolled = each_last
@@ -584,7 +585,7 @@ step_sound s (Enter (entry.Account name account)) answer next step sound =
     (λ e. sound_account s name account (none.fact e) sound)
 step_sound s (Enter (entry.Calendar year days)) answer next step sound =
     let P = checks_of s (Enter (entry.Calendar year days)) in
-    let between : Gives P (is_between 2001 2099 year ≡ true) = search heads depth 12 in
+    let between : Gives P (can_have_calendar year ≡ true) = search heads depth 12 in
     let fits : Gives P (is_calendar year days ≡ true) = search heads depth 12 in
     let none : Gives P (calendar_at s year ≡ None) = search heads depth 12 in
     done_sound s answer next sound P _ step (λ e. sound_calendar s year days (none.fact e)
@@ -607,7 +608,7 @@ step_sound s (Enter (entry.Total name (Year year) cents)) answer next step sound
     (search heads depth 12) (search heads depth 12) e sound)
 step_sound s (Enter (entry.Year name year)) answer next step sound =
     let P = checks_of s (Enter (entry.Year name year)) in
-    let between : Gives P (is_between 2001 2098 year ≡ true) = search heads depth 12 in
+    let between : Gives P (can_be_opened year ≡ true) = search heads depth 12 in
     let fresh : Gives P (is_open (entries_of s name) year ≡ false) = search heads depth 12 in
     let there : Gives P (is_some (entries_of s name).account ≡ true) = search heads depth 12 in
     let given : Gives P (is_given s year ≡ true) = search heads depth 12 in

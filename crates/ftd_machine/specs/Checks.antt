@@ -45,3 +45,14 @@ is_new (Some x) same refusal = Some (if same x then Ok Already else Err refusal)
 abbrev pub Decides : Option Answer → State → Answer → State → Type 0 → Type 0
 Decides (Some given) s answer new Else = (answer ≡ given) × (new ≡ s)
 Decides None s answer new Else = Else
+
+-- all checks pass, or else the first of them that answers decides
+abbrev pub Passes : {X : Type 0} → List (Option Answer) → Result X Answer → Type 0
+Passes checks (Ok found) = first_of checks ≡ None
+Passes checks (Err answer) = first_of checks ≡ Some answer
+
+-- the same, and what they find is so
+abbrev pub PassesWith
+    : {X : Type 0} → List (Option Answer) → (X → Type 0) → Result X Answer → Type 0
+PassesWith checks Found (Ok found) = (first_of checks ≡ None) × Found found
+PassesWith checks Found (Err answer) = first_of checks ≡ Some answer

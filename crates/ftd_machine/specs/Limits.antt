@@ -4,15 +4,32 @@ use Rattle.std.specs.List.{list_all}
 use Rattle.ftd_days.specs.Calendar.{year_of}
 use Rattle.ftd_days.specs.declared.cents.Cents.{Cents}
 use Rattle.ftd_rules.specs.declared.TheConstants.{AMOUNTS_END}
+use Rattle.ftd_machine.specs.declared.limits.TheConstants.{MOST_CENTS, MOST_ENTRIES, MOST_HOLIDAYS}
+use Rattle.ftd_machine.specs.declared.limits.TheConstants.{MOST_NUMBER, FIRST_YEAR}
+use Rattle.ftd_machine.specs.declared.limits.TheConstants.{FIRST_REPORTED_YEAR, LAST_OPEN_YEAR}
+use Rattle.ftd_machine.specs.declared.limits.TheConstants.{LAST_YEAR}
 use Rattle.ftd_rules.specs.declared.run.PayRun.{PayRun}
 
 -- the year is one of these
 abbrev pub is_between : ℕ → ℕ → ℕ → Bool
 is_between from to year = nat_le from year && nat_le year to
 
+-- a year that may be opened: pay runs are of such years
+abbrev pub can_be_opened : ℕ → Bool
+can_be_opened year = is_between FIRST_YEAR LAST_OPEN_YEAR year
+
+-- a year whose holidays may be given
+abbrev pub can_have_calendar : ℕ → Bool
+can_have_calendar year = is_between FIRST_YEAR LAST_YEAR year
+
+-- a year whose total, or that of its quarters, may be reported: a lookback period begins up to two
+-- years before the year that it is for
+abbrev pub can_be_reported : ℕ → Bool
+can_be_reported year = is_between FIRST_REPORTED_YEAR LAST_OPEN_YEAR year
+
 -- an amount that a request may name: at most 999,999,999.99
 abbrev pub is_amount : Cents → Bool
-is_amount cents = nat_le cents.0 99_999_999_999
+is_amount cents = nat_le cents.0 MOST_CENTS
 
 -- the three amounts of a run
 abbrev pub are_amounts : PayRun → Bool
@@ -20,11 +37,11 @@ are_amounts run = is_amount run.fit && (is_amount run.ss && is_amount run.medica
 
 -- the number of a run or of a payment
 abbrev pub is_number : ℕ → Bool
-is_number number = nat_le 1 number && nat_le number 999_999_999
+is_number number = nat_le 1 number && nat_le number MOST_NUMBER
 
 -- the most holidays of a year, those that were given and those that were added
 abbrev pub most_holidays : ℕ
-most_holidays = 60
+most_holidays = MOST_HOLIDAYS
 
 -- each day is before the next
 abbrev pub are_rising : List ℕ → Bool
@@ -38,7 +55,7 @@ is_calendar year days =
 
 -- the most runs of an account, and the most payments, voided ones too
 abbrev pub most_entries : ℕ
-most_entries = 20_000
+most_entries = MOST_ENTRIES
 
 -- the amounts of an account are together below this, in cents: of 20,000 runs with three amounts
 -- each

@@ -9,12 +9,17 @@ use Rattle.ftd_rules.specs.declared.Form.{Form}
 use Rattle.ftd_rules.specs.declared.Form.TheVariants.{F941, F943}
 use Rattle.ftd_machine.specs.declared.entries.Account.{Account}
 use Rattle.ftd_machine.specs.declared.entries.Beginning.{Beginning}
+use Rattle.ftd_machine.specs.declared.entries.ReturnPeriod.{ReturnPeriod}
+use Rattle.ftd_machine.specs.declared.entries.ReturnPeriod.TheVariants.{Quarter, Year}
 use Rattle.ftd_rules.specs.declared.run.PayRun.{PayRun}
 use Rattle.ftd_rules.specs.declared.payment.Payment.{Payment}
 use Rattle.ftd_rules.specs.declared.run.Voidable.{Voidable}
 use Rattle.ftd_rules.specs.Accounts.{is_account_name}
-use Rattle.ftd_machine.specs.Limits.{is_between, is_amount, are_amounts, is_number, is_calendar}
+use Rattle.ftd_machine.specs.Limits.{can_be_opened, can_be_reported, can_have_calendar, is_amount}
+use Rattle.ftd_machine.specs.Limits.{are_amounts, is_number, is_calendar}
 use Rattle.ftd_machine.specs.Limits.{most_holidays, most_entries}
+use Rattle.ftd_machine.specs.declared.limits.TheConstants.{LAST_OPEN_YEAR}
+use Rattle.ftd_machine.specs.declared.replies.Refusal.{Refusal}
 use Rattle.ftd_machine.specs.Checks.{Answer, needs, done_if, finds, meets, is_new}
 use Rattle.ftd_machine.specs.State.{Entries}
 use Rattle.ftd_machine.specs.declared.replies.Refusal.TheVariants.{BadName, BadYear, BadDay}
@@ -86,20 +91,45 @@ has_started day account = nat_le account.start day
 abbrev pub has_started_in : ℕ → Account → Bool
 has_started_in year account = nat_le (year_of account.start) year
 
+-- ---- what a return period is
+
+-- the form whose return is about the period, and the period's year
+abbrev pub form_for : ReturnPeriod → Form
+form_for (Quarter quarter) = F941
+form_for (Year year) = F943
+
+abbrev pub year_of_period : ReturnPeriod → ℕ
+year_of_period (Quarter quarter) = quarter_year quarter
+year_of_period (Year year) = year
+
+-- the employer starts before the period ends
+abbrev pub starts_in_time : ReturnPeriod → Account → Bool
+starts_in_time (Quarter quarter) account = starts_before (quarter_start (quarter + 1)) account
+starts_in_time (Year year) account = has_started_in year account
+
+-- the refusals of a total that is reported with another amount, and of one that is not reported
+abbrev pub differs_for : ReturnPeriod → Refusal
+differs_for (Quarter quarter) = QuarterDiffers
+differs_for (Year year) = YearDiffers
+
+abbrev pub missing_for : ReturnPeriod → Refusal
+missing_for (Quarter quarter) = QuarterMissing quarter
+missing_for (Year year) = YearMissing year
+
 -- ---- the checks
 
 -- Enrol: the name; a first day not after 2098; known, it was enrolled before or differs
 abbrev pub enrol_checks : List ℕ → Account → Option Account → List (Option Answer)
 enrol_checks name account known =
     needs (is_account_name name) BadName
-    ∷ needs (nat_le (year_of account.start) 2098) BadDay
+    ∷ needs (nat_le (year_of account.start) LAST_OPEN_YEAR) BadDay
     ∷ is_new known (same_account account) AccountDiffers
     ∷ []
 
 -- Calendar: a year of 2001 to 2099; its days; known, it was given before or differs
 abbrev pub calendar_checks : ℕ → List ℕ → Option (List ℕ) → List (Option Answer)
 calendar_checks year days known =
-    needs (is_between 2001 2099 year) BadYear
+    needs (can_have_calendar year) BadYear
     ∷ needs (is_calendar year days) BadCalendar
     ∷ is_new known (same_days days) CalendarDiffers
     ∷ []
@@ -114,37 +144,25 @@ days_of_year (Some given) added = given ++ added
 abbrev pub add_holiday_checks : ℕ → Option (List ℕ) → List ℕ → List (Option Answer)
 add_holiday_checks day calendar added =
     let days = days_of_year calendar added in
-    needs (is_between 2001 2099 (year_of day)) BadDay
+    needs (can_have_calendar (year_of day)) BadDay
     ∷ done_if (is_holiday days day)
     ∷ finds calendar (CalendarMissing (year_of day))
     ∷ needs (nat_lt (length days) most_holidays) BadCalendar
     ∷ []
 
--- Report: the name; a quarter of 1999 to 2098; the amount; the account, on Form 941; known, the
--- quarter was reported before or differs; and a quarter that does not end before the employer's
--- first day
-abbrev pub report_checks : List ℕ → ℕ → Cents → Option Account → Option Cents → List (Option Answer)
-report_checks name quarter cents account known =
+-- Total: the name; a quarter or a year of 1999 to 2098; the amount; the account, on the form whose
+-- return is about it; known, the total was reported before or differs; and a period that does not
+-- end before the employer's first day
+abbrev pub report_checks
+    : List ℕ → ReturnPeriod → Cents → Option Account → Option Cents → List (Option Answer)
+report_checks name period cents account known =
     needs (is_account_name name) BadName
-    ∷ needs (is_between 1999 2098 (quarter_year quarter)) BadYear
+    ∷ needs (can_be_reported (year_of_period period)) BadYear
     ∷ needs (is_amount cents) BadCents
     ∷ finds account UnknownAccount
-    ∷ needs (meets (is_on F941) account) WrongForm
-    ∷ is_new known (same_amount cents) QuarterDiffers
-    ∷ needs (meets (starts_before (quarter_start (quarter + 1))) account) BeforeStart
-    ∷ []
-
--- ReportYear: the same of a year of 1999 to 2098, on Form 943
-abbrev pub report_year_checks
-    : List ℕ → ℕ → Cents → Option Account → Option Cents → List (Option Answer)
-report_year_checks name year cents account known =
-    needs (is_account_name name) BadName
-    ∷ needs (is_between 1999 2098 year) BadYear
-    ∷ needs (is_amount cents) BadCents
-    ∷ finds account UnknownAccount
-    ∷ needs (meets (is_on F943) account) WrongForm
-    ∷ is_new known (same_amount cents) YearDiffers
-    ∷ needs (meets (has_started_in year) account) BeforeStart
+    ∷ needs (meets (is_on (form_for period)) account) WrongForm
+    ∷ is_new known (same_amount cents) (differs_for period)
+    ∷ needs (meets (starts_in_time period) account) BeforeStart
     ∷ []
 
 -- OpenYear: the name; a year of 2001 to 2098; the account; open, it was opened before; not before
@@ -154,7 +172,7 @@ abbrev pub open_year_checks
     : List ℕ → ℕ → Option Account → Bool → Bool → Bool → List (Option Answer)
 open_year_checks name year account there calendar next =
     needs (is_account_name name) BadName
-    ∷ needs (is_between 2001 2098 year) BadYear
+    ∷ needs (can_be_opened year) BadYear
     ∷ finds account UnknownAccount
     ∷ done_if there
     ∷ needs (meets (has_started_in year) account) BeforeStart
@@ -170,7 +188,7 @@ abbrev pub post_checks
     → List (Option Answer)
 post_checks name number run account known there count =
     needs (is_account_name name) BadName
-    ∷ needs (is_between 2001 2098 (year_of run.payday)) BadDay
+    ∷ needs (can_be_opened (year_of run.payday)) BadDay
     ∷ needs (are_amounts run) BadCents
     ∷ needs (is_number number) BadNumber
     ∷ finds account UnknownAccount
@@ -199,8 +217,8 @@ abbrev pub pay_checks
     → List (Option Answer)
 pay_checks name number payment account known there count =
     needs (is_account_name name) BadName
-    ∷ needs (is_between 2001 2099 (year_of payment.paid)
-    && is_between 2001 2098 (year_of payment.for_day)) BadDay
+    ∷ needs (can_have_calendar (year_of payment.paid)
+    && can_be_opened (year_of payment.for_day)) BadDay
     ∷ needs (nat_le 1 payment.cents.0 && is_amount payment.cents) BadCents
     ∷ needs (is_number number) BadNumber
     ∷ finds account UnknownAccount
@@ -227,36 +245,20 @@ void_payment_checks name number account known =
 abbrev pub is_next : ℕ → ℕ → Option Answer
 is_next number count = needs (number == count + 1) (NumberSkipped count)
 
--- CorrectReport: the name; a quarter of 1999 to 2098; the amount; the number; the account, on Form
--- 941; the quarter is reported; known, the correction was made before or differs; and the next
--- number
-abbrev pub correct_report_checks
-    : List ℕ → ℕ → ℕ → Cents → Option Account → Option Cents → Option Cents → ℕ
+-- a correction of a total: the name; a quarter or a year of 1999 to 2098; the amount; the number;
+-- the account, on the form whose return is about it; the total is reported; known, the correction
+-- was made before or differs; and the next number
+abbrev pub correct_total_checks
+    : List ℕ → ReturnPeriod → ℕ → Cents → Option Account → Option Cents → Option Cents → ℕ
     → List (Option Answer)
-correct_report_checks name quarter number cents account reported known count =
+correct_total_checks name period number cents account reported known count =
     needs (is_account_name name) BadName
-    ∷ needs (is_between 1999 2098 (quarter_year quarter)) BadYear
+    ∷ needs (can_be_reported (year_of_period period)) BadYear
     ∷ needs (is_amount cents) BadCents
     ∷ needs (is_number number) BadNumber
     ∷ finds account UnknownAccount
-    ∷ needs (meets (is_on F941) account) WrongForm
-    ∷ finds reported (QuarterMissing quarter)
-    ∷ is_new known (same_amount cents) CorrectionDiffers
-    ∷ is_next number count
-    ∷ []
-
--- CorrectReportYear: the same of a year of 1999 to 2098, on Form 943
-abbrev pub correct_report_year_checks
-    : List ℕ → ℕ → ℕ → Cents → Option Account → Option Cents → Option Cents → ℕ
-    → List (Option Answer)
-correct_report_year_checks name year number cents account reported known count =
-    needs (is_account_name name) BadName
-    ∷ needs (is_between 1999 2098 year) BadYear
-    ∷ needs (is_amount cents) BadCents
-    ∷ needs (is_number number) BadNumber
-    ∷ finds account UnknownAccount
-    ∷ needs (meets (is_on F943) account) WrongForm
-    ∷ finds reported (YearMissing year)
+    ∷ needs (meets (is_on (form_for period)) account) WrongForm
+    ∷ finds reported (missing_for period)
     ∷ is_new known (same_amount cents) CorrectionDiffers
     ∷ is_next number count
     ∷ []
@@ -266,7 +268,7 @@ correct_report_year_checks name year number cents account reported known count =
 abbrev pub change_holiday_checks
     : ℕ → ℕ → Bool → Option (List ℕ) → List ℕ → Option Bool → ℕ → List (Option Answer)
 change_holiday_checks day number is_one calendar added known count =
-    needs (is_between 2001 2099 (year_of day)) BadDay
+    needs (can_have_calendar (year_of day)) BadDay
     ∷ needs (is_number number) BadNumber
     ∷ finds calendar (CalendarMissing (year_of day))
     ∷ needs (is_holiday (days_of_year calendar added) day) NoHoliday
@@ -291,7 +293,7 @@ abbrev pub correct_account_checks
     : List ℕ → ℕ → Beginning → Option Account → Option Beginning → Bool → ℕ → List (Option Answer)
 correct_account_checks name number beginning account known unused count =
     needs (is_account_name name) BadName
-    ∷ needs (nat_le (year_of beginning.start) 2098) BadDay
+    ∷ needs (nat_le (year_of beginning.start) LAST_OPEN_YEAR) BadDay
     ∷ needs (is_number number) BadNumber
     ∷ finds account UnknownAccount
     ∷ is_new known (same_beginning beginning) CorrectionDiffers
@@ -306,7 +308,7 @@ correct_account_checks name number beginning account known unused count =
 abbrev pub status_checks : List ℕ → ℕ → Option Account → Bool → List (Option Answer)
 status_checks name day account there =
     needs (is_account_name name) BadName
-    ∷ needs (is_between 2001 2098 (year_of day)) BadDay
+    ∷ needs (can_be_opened (year_of day)) BadDay
     ∷ finds account UnknownAccount
     ∷ needs there (YearNotOpen (year_of day))
     ∷ []
@@ -316,8 +318,8 @@ status_checks name day account there =
 abbrev pub due_list_checks : List ℕ → ℕ → ℕ → Option Account → Bool → List (Option Answer)
 due_list_checks name quarter as_of account there =
     needs (is_account_name name) BadName
-    ∷ needs (is_between 2001 2098 (quarter_year quarter)) BadYear
-    ∷ needs (is_between 2001 2099 (year_of as_of)) BadDay
+    ∷ needs (can_be_opened (quarter_year quarter)) BadYear
+    ∷ needs (can_have_calendar (year_of as_of)) BadDay
     ∷ finds account UnknownAccount
     ∷ needs there (YearNotOpen (quarter_year quarter))
     ∷ []
@@ -326,7 +328,7 @@ due_list_checks name quarter as_of account there =
 abbrev pub schedule_b_checks : List ℕ → ℕ → Option Account → Bool → List (Option Answer)
 schedule_b_checks name quarter account there =
     needs (is_account_name name) BadName
-    ∷ needs (is_between 2001 2098 (quarter_year quarter)) BadYear
+    ∷ needs (can_be_opened (quarter_year quarter)) BadYear
     ∷ finds account UnknownAccount
     ∷ needs (meets (is_on F941) account) WrongForm
     ∷ needs there (YearNotOpen (quarter_year quarter))
@@ -335,20 +337,20 @@ schedule_b_checks name quarter account there =
 -- Agenda: two days of 2001 to 2099, and an as-of day of these years
 abbrev pub agenda_checks : ℕ → ℕ → ℕ → List (Option Answer)
 agenda_checks from to as_of =
-    needs (is_between 2001 2099 (year_of from) && is_between 2001 2099 (year_of to)) BadDay
-    ∷ needs (is_between 2001 2099 (year_of as_of)) BadDay
+    needs (can_have_calendar (year_of from) && can_have_calendar (year_of to)) BadDay
+    ∷ needs (can_have_calendar (year_of as_of)) BadDay
     ∷ []
 
 -- Owed: a day of 2001 to 2099, and an as-of day of these years
 abbrev pub owed_checks : ℕ → ℕ → List (Option Answer)
 owed_checks until as_of =
-    needs (is_between 2001 2099 (year_of until)) BadDay
-    ∷ needs (is_between 2001 2099 (year_of as_of)) BadDay
+    needs (can_have_calendar (year_of until)) BadDay
+    ∷ needs (can_have_calendar (year_of as_of)) BadDay
     ∷ []
 
 -- Unapplied: a day of 2001 to 2099
 abbrev pub unapplied_checks : ℕ → List (Option Answer)
-unapplied_checks until = needs (is_between 2001 2099 (year_of until)) BadDay ∷ []
+unapplied_checks until = needs (can_have_calendar (year_of until)) BadDay ∷ []
 
 -- Kept, of an account: the name; and the account
 abbrev pub kept_of_checks : List ℕ → Option Account → List (Option Answer)
@@ -361,13 +363,13 @@ kept_of_checks name account =
 abbrev pub kept_in_quarter_checks : List ℕ → ℕ → Option Account → List (Option Answer)
 kept_in_quarter_checks name quarter account =
     needs (is_account_name name) BadName
-    ∷ needs (is_between 2001 2098 (quarter_year quarter)) BadYear
+    ∷ needs (can_be_opened (quarter_year quarter)) BadYear
     ∷ finds account UnknownAccount
     ∷ []
 
 -- Kept, the holidays of a year: a year of 2001 to 2099; and its calendar
 abbrev pub holidays_checks : ℕ → Bool → List (Option Answer)
 holidays_checks year is_given =
-    needs (is_between 2001 2099 year) BadYear
+    needs (can_have_calendar year) BadYear
     ∷ needs is_given (CalendarMissing year)
     ∷ []

@@ -8,7 +8,8 @@ use Rattle.ftd_rules.specs.Lists.{Has}
 use Rattle.ftd_rules.specs.declared.run.PayRun.{PayRun}
 use Rattle.ftd_rules.specs.declared.payment.Payment.{Payment}
 use Rattle.ftd_rules.specs.declared.run.Voidable.{Voidable}
-use Rattle.ftd_machine.specs.Limits.{is_between, is_calendar, is_amount, are_amounts}
+use Rattle.ftd_machine.specs.Limits.{can_be_opened, can_have_calendar, is_calendar, is_amount}
+use Rattle.ftd_machine.specs.Limits.{are_amounts}
 use Rattle.ftd_machine.specs.Limits.{is_number, most_entries}
 use Rattle.ftd_machine.specs.State.{DayChange, State, Enrolled, all_days, Entry, entries_of, is_of}
 use Rattle.ftd_machine.specs.State.{is_open, is_given}
@@ -55,10 +56,10 @@ pub record IsSound (s : State) : Type 0 where
   pub payments : AreDistinct place_of s.payments
   -- each calendar has at most 60 days of its year, rising
   pub are_calendars : (c : YearDays) → Has s.calendars c
-      → (is_between 2001 2099 c.year ≡ true) × (is_calendar c.year c.days ≡ true)
+      → (can_have_calendar c.year ≡ true) × (is_calendar c.year c.days ≡ true)
   -- each open year is one of 2001 to 2098, and its calendar and that of the next year are given
   pub opened : (e : Entry (Unit {0})) → Has s.open_years e
-      → (is_between 2001 2098 e.key ≡ true)
+      → (can_be_opened e.key ≡ true)
       × (is_given s e.key ≡ true) × (is_given s (e.key + 1) ≡ true)
   -- each open year is one of an account that is enrolled
   pub enrolled : (e : Entry (Unit {0})) → Has s.open_years e

@@ -7,6 +7,8 @@ use Rattle.ftd_days.specs.Holidays.{YearDays, holidays_of, calendar_of}
 use Rattle.ftd_days.specs.declared.cents.Cents.{Cents}
 use Rattle.ftd_machine.specs.declared.entries.Account.{Account}
 use Rattle.ftd_machine.specs.declared.entries.Beginning.{Beginning}
+use Rattle.ftd_machine.specs.declared.entries.ReturnPeriod.{ReturnPeriod}
+use Rattle.ftd_machine.specs.declared.entries.ReturnPeriod.TheVariants.{Quarter, Year}
 use Rattle.ftd_rules.specs.declared.run.PayRun.{PayRun}
 use Rattle.ftd_rules.specs.declared.payment.Payment.{Payment}
 use Rattle.ftd_rules.specs.declared.run.Voidable.{Voidable}
@@ -200,3 +202,13 @@ all_at key corrected = map content_of (filter (has_key key) corrected)
 abbrev pub figure_at : ℕ → List (Entry Cents) → List (Entry Cents) → Option Cents
 figure_at key reported corrected =
     option_map (λ cents. latest cents (all_at key corrected)) (kept_at key reported)
+
+-- the total of a period as it was first reported, if it was, and its corrections, the first one
+-- first
+abbrev pub reported_at : Entries → ReturnPeriod → Option Cents
+reported_at own (Quarter quarter) = kept_at quarter own.reported
+reported_at own (Year year) = kept_at year own.reported_years
+
+abbrev pub corrections_at : Entries → ReturnPeriod → List Cents
+corrections_at own (Quarter quarter) = all_at quarter own.corrected
+corrections_at own (Year year) = all_at year own.corrected_years

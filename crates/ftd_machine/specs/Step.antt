@@ -11,12 +11,12 @@ use Rattle.ftd_rules.specs.declared.run.Voidable.{Voidable}
 use Rattle.ftd_machine.specs.State.{State, Enrolled, Entries, Entry, holidays, calendar_at}
 use Rattle.ftd_machine.specs.State.{is_given, added_in, entries_of, is_of, has_key, kept_at}
 use Rattle.ftd_machine.specs.State.{is_open, all_at, changes_of, numbered, Move}
+use Rattle.ftd_machine.specs.State.{reported_at, corrections_at}
 use Rattle.ftd_machine.specs.History.{HasLookback, LacksFigure}
 use Rattle.ftd_machine.specs.Checks.{Answer, first_of, needs, Decides}
 use Rattle.ftd_machine.specs.Requests.{enrol_checks, calendar_checks, add_holiday_checks}
-use Rattle.ftd_machine.specs.Requests.{report_checks, report_year_checks, open_year_checks}
+use Rattle.ftd_machine.specs.Requests.{report_checks, open_year_checks, correct_total_checks}
 use Rattle.ftd_machine.specs.Requests.{post_checks, void_checks, pay_checks, void_payment_checks}
-use Rattle.ftd_machine.specs.Requests.{correct_report_checks, correct_report_year_checks}
 use Rattle.ftd_machine.specs.Requests.{change_holiday_checks, correct_account_checks, is_unused}
 use Rattle.ftd_machine.specs.Posting.{IsPosted}
 use Rattle.ftd_machine.specs.Questions.{question_checks, Tells}
@@ -29,6 +29,7 @@ use Rattle.ftd_machine.specs.declared.requests.Request.TheVariants.{Enter, Post,
 use Rattle.ftd_machine.specs.declared.requests.Request.TheVariants.{Correct, Question}
 use Rattle.ftd_machine.specs.declared.requests.Entry.TheVariants as entry
 use Rattle.ftd_machine.specs.declared.requests.Correction.TheVariants as correction
+use Rattle.ftd_machine.specs.declared.entries.ReturnPeriod.{ReturnPeriod}
 use Rattle.ftd_machine.specs.declared.entries.ReturnPeriod.TheVariants.{Quarter, Year}
 
 -- an account more, under its name
@@ -39,6 +40,24 @@ with_account accounts name account = accounts ++ record { name = name; account =
 abbrev pub with_entry : {X : Type 0} → List (Entry X) → List ℕ → ℕ → X → List (Entry X)
 with_entry entries name key content =
     entries ++ record { name = name; key = key; content = content } ∷ []
+
+-- the total of a period more, as it was first reported, and a correction more of it
+abbrev pub with_total : State → List ℕ → ReturnPeriod → Cents → State
+with_total s name (Quarter quarter) cents =
+    record s { reported = with_entry s.reported name quarter cents }
+with_total s name (Year year) cents =
+    record s { reported_years = with_entry s.reported_years name year cents }
+
+abbrev pub with_correction : State → List ℕ → ReturnPeriod → Cents → State
+with_correction s name (Quarter quarter) cents =
+    record s { corrected = with_entry s.corrected name quarter cents }
+with_correction s name (Year year) cents =
+    record s { corrected_years = with_entry s.corrected_years name year cents }
+
+-- the first day of a period
+abbrev pub first_day_of : ReturnPeriod → ℕ
+first_day_of (Quarter quarter) = quarter_start quarter
+first_day_of (Year year) = year_start year
 
 -- a run or a payment that is taken, and is live
 abbrev pub taken : {X : Type 0} → X → Voidable X
@@ -102,19 +121,12 @@ module _ (s : State) (answer : Answer) (new : State) where
       Checks (add_holiday_checks day (calendar_at s year) (added_in s year))
       (IsDone (record s { added_days = s.added_days ++ day ∷ [] }))
 
-  -- the figure of a quarter is taken
-  abbrev pub Reports : List ℕ → ℕ → Cents → Type 0
-  Reports name quarter cents =
+  -- the total of a quarter or a year is taken
+  abbrev pub Reports : List ℕ → ReturnPeriod → Cents → Type 0
+  Reports name period cents =
       let own = entries_of s name in
-      Checks (report_checks name quarter cents own.account (kept_at quarter own.reported))
-      (IsDone (record s { reported = with_entry s.reported name quarter cents }))
-
-  -- the figure of a year is taken
-  abbrev pub ReportsYear : List ℕ → ℕ → Cents → Type 0
-  ReportsYear name year cents =
-      let own = entries_of s name in
-      Checks (report_year_checks name year cents own.account (kept_at year own.reported_years))
-      (IsDone (record s { reported_years = with_entry s.reported_years name year cents }))
+      Checks (report_checks name period cents own.account (reported_at own period))
+      (IsDone (with_total s name period cents))
 
   -- a year is opened: a figure of its lookback period is missing, which is named; or else the year
   -- before has to be opened first, or it is done
@@ -170,34 +182,16 @@ module _ (s : State) (answer : Answer) (new : State) where
       Checks (void_payment_checks name number own.account (kept_at number own.payments))
       (IsDone (record s { payments = with_voided s.payments name number }))
 
-  -- a figure is corrected, and the obligations that differ are told
-  abbrev pub Corrects : List (Option Answer) → State → List ℕ → ℕ → Type 0
-  Corrects checks after name first =
-      Checks checks
-      ((new ≡ after)
-      × IsPosted (holidays s) (entries_of s name) (entries_of new name) first answer)
-
-  -- of a quarter
-  abbrev pub CorrectsReport : List ℕ → ℕ → ℕ → Cents → Type 0
-  CorrectsReport name quarter number cents =
+  -- the total of a quarter or a year is corrected, and the obligations that differ are told
+  abbrev pub CorrectsTotal : List ℕ → ReturnPeriod → ℕ → Cents → Type 0
+  CorrectsTotal name period number cents =
       let own = entries_of s name in
-      let known = all_at quarter own.corrected in
-      Corrects
-      (correct_report_checks name quarter number cents own.account (kept_at quarter own.reported)
+      let known = corrections_at own period in
+      Checks
+      (correct_total_checks name period number cents own.account (reported_at own period)
       (numbered number known) (length known))
-      (record s { corrected = with_entry s.corrected name quarter cents }) name
-      (quarter_start quarter)
-
-  -- of a year
-  abbrev pub CorrectsReportYear : List ℕ → ℕ → ℕ → Cents → Type 0
-  CorrectsReportYear name year number cents =
-      let own = entries_of s name in
-      let known = all_at year own.corrected_years in
-      Corrects
-      (correct_report_year_checks name year number cents own.account
-      (kept_at year own.reported_years) (numbered number known) (length known))
-      (record s { corrected_years = with_entry s.corrected_years name year cents }) name
-      (year_start year)
+      ((new ≡ with_correction s name period cents)
+      × IsPosted (holidays s) own (entries_of new name) (first_day_of period) answer)
 
   -- a day is taken back as a holiday, or made one again
   abbrev pub Changes : ℕ → ℕ → Bool → Type 0
@@ -229,19 +223,15 @@ abbrev pub Step : State → Request → Answer → State → Type 0
 Step s (Enter (entry.Account name account)) answer new = Enrols s answer new name account
 Step s (Enter (entry.Calendar year days)) answer new = Takes s answer new year days
 Step s (Enter (entry.Holiday day)) answer new = Adds s answer new day
-Step s (Enter (entry.Total name (Quarter quarter) cents)) answer new =
-    Reports s answer new name quarter cents
-Step s (Enter (entry.Total name (Year year) cents)) answer new =
-    ReportsYear s answer new name year cents
+Step s (Enter (entry.Total name period cents)) answer new =
+    Reports s answer new name period cents
 Step s (Enter (entry.Year name year)) answer new = Opens s answer new name year
 Step s (Post name number run) answer new = Posts s answer new name number run
 Step s (Void name number) answer new = Voids s answer new name number
 Step s (Pay name number payment) answer new = Pays s answer new name number payment
 Step s (VoidPay name number) answer new = VoidsPayment s answer new name number
-Step s (Correct number (correction.Total name (Quarter quarter) cents)) answer new =
-    CorrectsReport s answer new name quarter number cents
-Step s (Correct number (correction.Total name (Year year) cents)) answer new =
-    CorrectsReportYear s answer new name year number cents
+Step s (Correct number (correction.Total name period cents)) answer new =
+    CorrectsTotal s answer new name period number cents
 Step s (Correct number (correction.Holiday day is_holiday)) answer new =
     Changes s answer new day number is_holiday
 Step s (Correct number (correction.Account name beginning)) answer new =

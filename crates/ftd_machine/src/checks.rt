@@ -1,20 +1,24 @@
-//! The checks of each request, in the order in which they decide. Each function answers what the
-//! first check says that answers, or None where all pass. None takes memory.
+//! The checks of each request, in the order in which they decide. Each function passes, with what
+//! it found where something rests on that, or fails with what the first check that answers says.
+//! None takes memory.
 
-ghost use Rattle.std.specs.Prelude.{◌≡◌, Ok, Err, Some, None, if◌then◌else◌, option_copied, false};
-ghost use Rattle.ftd_machine.specs.Checks.{first_of};
+ghost use Rattle.std.specs.Prelude.{◌≡◌, Ok, Err, Some, None, true, false, MatchResult};
+ghost use Rattle.std.specs.Prelude.{if◌then◌else◌, option_copied};
+ghost use Rattle.ftd_machine.specs.Checks.{PassesWith, Passes};
 ghost use Rattle.ftd_machine.specs.Requests.{is_form, same_account, same_run, same_payment};
+ghost use Rattle.ftd_machine.specs.Requests.{differs_for, starts_in_time};
 ghost use Rattle.ftd_machine.specs.Requests.{enrol_checks, calendar_checks, add_holiday_checks};
-ghost use Rattle.ftd_machine.specs.Requests.{report_checks, report_year_checks, open_year_checks};
+ghost use Rattle.ftd_machine.specs.Requests.{report_checks, open_year_checks};
 ghost use Rattle.ftd_machine.specs.Requests.{post_checks, void_checks, pay_checks};
 ghost use Rattle.ftd_machine.specs.Requests.{void_payment_checks, status_checks, due_list_checks};
 ghost use Rattle.ftd_machine.specs.Requests.{schedule_b_checks, agenda_checks, owed_checks};
 ghost use Rattle.ftd_machine.specs.Requests.{holidays_checks, kept_of_checks, unapplied_checks};
 ghost use Rattle.ftd_machine.specs.Requests.{kept_in_quarter_checks};
 
-use crate::entries::Account;
+use crate::entries::{Account, ReturnPeriod};
 use crate::limits::{
-    MOST_ENTRIES, MOST_HOLIDAYS, is_amount, is_before_end, is_between, is_calendar, is_number,
+    LAST_OPEN_YEAR, MOST_ENTRIES, MOST_HOLIDAYS, are_amounts, can_be_opened, can_be_reported,
+    can_have_calendar, is_amount, is_before_end, is_calendar, is_number,
 };
 use crate::replies::{Refusal, Reply};
 use ftd_days::{Cents, Day, Quarter};
@@ -22,6 +26,26 @@ use ftd_rules::{Form, PayRun, Payment, Voidable, is_account_name};
 
 /// What a request is answered.
 pub type Answer = Result<Reply, Refusal>;
+
+/// The request is refused unless this holds.
+pub(crate) fn needs(holds: bool, refusal: Refusal) -> Result<(), Answer>
+    ensures { MatchResult result (λ _. holds ≡ true)
+        (λ answer. (holds ≡ false) × (answer ≡ Err refusal)) }
+{
+    if holds { Ok(()) } else { Err(Err(refusal)) }
+}
+
+/// What was asked for was done before if this holds.
+fn unless_done(done: bool) -> Result<(), Answer>
+    ensures { MatchResult result (λ _. done ≡ false)
+        (λ answer. (done ≡ true) × (answer ≡ Ok Reply.Already)) }
+{
+    if done {
+        Err(Ok(Reply::Already))
+    } else {
+        Ok(())
+    }
+}
 
 /// Done before, or known with other content.
 pub(crate) fn known_as(same: bool, differs: Refusal) -> Answer
@@ -54,130 +78,92 @@ fn is_same_account(known: &Account, account: &Account) -> bool
 }
 
 /// The checks of an account that is enrolled, where this is known under its name.
-pub fn enrol_check(name: &str, account: &Account, known: Option<Account>) -> Option<Answer>
-    ensures { result ≡ first_of (enrol_checks name.now account.now known) }
+pub fn enrol_check(name: &str, account: &Account, known: Option<Account>) -> Result<(), Answer>
+    ensures { Passes (enrol_checks name.now account.now known) result }
 {
-    if !is_account_name(name.as_bytes()) {
-        return Some(Err(Refusal::BadName));
+    needs(is_account_name(name.as_bytes()), Refusal::BadName)?;
+    needs(account.start.year() <= LAST_OPEN_YEAR, Refusal::BadDay)?;
+    if let Some(known) = known {
+        let same = is_same_account(&known, account);
+        return Err(known_as(same, Refusal::AccountDiffers));
     }
-    if account.start.year() > 2098 {
-        return Some(Err(Refusal::BadDay));
-    }
-    let known = known?;
-    let same = is_same_account(&known, account);
-    Some(known_as(same, Refusal::AccountDiffers))
+    Ok(())
 }
 
 /// The checks of the holidays of a year, where these are known of it.
-pub fn calendar_check(year: u32, days: &[Day], known: Option<&[Day]>) -> Option<Answer>
-    ensures { result ≡ first_of (calendar_checks year days.now (option_copied known.entry)) }
+pub fn calendar_check(year: u32, days: &[Day], known: Option<&[Day]>) -> Result<(), Answer>
+    ensures { Passes (calendar_checks year days.now (option_copied known.entry)) result }
 {
-    if !is_between(2001, 2099, year) {
-        return Some(Err(Refusal::BadYear));
+    needs(can_have_calendar(year), Refusal::BadYear)?;
+    needs(is_calendar(year, days), Refusal::BadCalendar)?;
+    if let Some(known) = known {
+        return Err(known_as(known == days, Refusal::CalendarDiffers));
     }
-    if !is_calendar(year, days) {
-        return Some(Err(Refusal::BadCalendar));
-    }
-    let known = known?;
-    Some(known_as(known == days, Refusal::CalendarDiffers))
+    Ok(())
 }
 
 /// The checks of a holiday that is added, where these are the holidays that were given of its year,
 /// if any were, and those that were added to it.
-pub fn add_holiday_check(day: Day, calendar: Option<&[Day]>, added: &[Day]) -> Option<Answer>
-    ensures { result ≡ first_of (add_holiday_checks day (option_copied calendar.entry) added.now) }
+pub fn add_holiday_check(day: Day, calendar: Option<&[Day]>, added: &[Day]) -> Result<(), Answer>
+    ensures { Passes (add_holiday_checks day (option_copied calendar.entry) added.now) result }
 {
     let year = day.year();
-    if !is_between(2001, 2099, year) {
-        return Some(Err(Refusal::BadDay));
-    }
-    if added.contains(&day) {
-        return Some(Ok(Reply::Already));
-    }
+    needs(can_have_calendar(year), Refusal::BadDay)?;
+    unless_done(added.contains(&day))?;
     let Some(calendar) = calendar else {
-        return Some(Err(Refusal::CalendarMissing(year)));
+        return Err(Err(Refusal::CalendarMissing(year)));
     };
-    if calendar.contains(&day) {
-        return Some(Ok(Reply::Already));
-    }
+    unless_done(calendar.contains(&day))?;
     if calendar.len() >= MOST_HOLIDAYS || added.len() >= MOST_HOLIDAYS - calendar.len() {
-        return Some(Err(Refusal::BadCalendar));
+        return Err(Err(Refusal::BadCalendar));
     }
-    None
+    Ok(())
 }
 
-/// The checks of a figure that is reported, where this is known of the account and of the quarter.
+/// Whether the employer starts before the period ends.
+fn starts_in_time(period: &ReturnPeriod, account: &Account) -> bool
+    ensures { result ≡ starts_in_time period.now account.now }
+{
+    match period {
+        ReturnPeriod::Quarter(quarter) => is_before_end(account.start, *quarter),
+        ReturnPeriod::Year(year) => account.start.year() <= *year,
+    }
+}
+
+/// The refusal of a total that was reported with another amount.
+fn differs_for(period: &ReturnPeriod) -> Refusal
+    ensures { result ≡ differs_for period.now }
+{
+    match period {
+        ReturnPeriod::Quarter(_) => Refusal::QuarterDiffers,
+        ReturnPeriod::Year(_) => Refusal::YearDiffers,
+    }
+}
+
+/// The checks of a total that is reported, where this is known of the account and of the period.
 pub fn report_check(
     name: &str,
-    quarter: Quarter,
+    period: &ReturnPeriod,
     cents: Cents,
     account: Option<Account>,
     known: Option<Cents>,
-) -> Option<Answer>
-    ensures { result ≡ first_of (report_checks name.now quarter cents account known) }
+) -> Result<(), Answer>
+    ensures { Passes (report_checks name.now period.now cents account known) result }
 {
-    if !is_account_name(name.as_bytes()) {
-        return Some(Err(Refusal::BadName));
-    }
-    if !is_between(1999, 2098, quarter.year()) {
-        return Some(Err(Refusal::BadYear));
-    }
-    if !is_amount(cents) {
-        return Some(Err(Refusal::BadCents));
-    }
-    let Some(account) = account else {
-        return Some(Err(Refusal::UnknownAccount));
-    };
-    if !is_form(account.form, Form::F941) {
-        return Some(Err(Refusal::WrongForm));
-    }
+    needs(is_account_name(name.as_bytes()), Refusal::BadName)?;
+    needs(can_be_reported(period.year()), Refusal::BadYear)?;
+    needs(is_amount(cents), Refusal::BadCents)?;
+    let account = account.ok_or(Err(Refusal::UnknownAccount))?;
+    needs(is_form(account.form, period.form()), Refusal::WrongForm)?;
     if let Some(known) = known {
-        return Some(known_as(known.0 == cents.0, Refusal::QuarterDiffers));
+        return Err(known_as(known.0 == cents.0, differs_for(period)));
     }
-    if !is_before_end(account.start, quarter) {
-        return Some(Err(Refusal::BeforeStart));
-    }
-    None
-}
-
-/// The checks of a year's figure that is reported, where this is known of the account and of the
-/// year.
-pub fn report_year_check(
-    name: &str,
-    year: u32,
-    cents: Cents,
-    account: Option<Account>,
-    known: Option<Cents>,
-) -> Option<Answer>
-    ensures { result ≡ first_of (report_year_checks name.now year cents account known) }
-{
-    if !is_account_name(name.as_bytes()) {
-        return Some(Err(Refusal::BadName));
-    }
-    if !is_between(1999, 2098, year) {
-        return Some(Err(Refusal::BadYear));
-    }
-    if !is_amount(cents) {
-        return Some(Err(Refusal::BadCents));
-    }
-    let Some(account) = account else {
-        return Some(Err(Refusal::UnknownAccount));
-    };
-    if !is_form(account.form, Form::F943) {
-        return Some(Err(Refusal::WrongForm));
-    }
-    if let Some(known) = known {
-        return Some(known_as(known.0 == cents.0, Refusal::YearDiffers));
-    }
-    if account.start.year() > year {
-        return Some(Err(Refusal::BeforeStart));
-    }
-    None
+    needs(starts_in_time(period, &account), Refusal::BeforeStart)
 }
 
 /// The checks of a year that is opened, up to those of its lookback period and of the year before:
 /// where this is known of the account, whether the year is open, and whether its calendar and that
-/// of the next year are given.
+/// of the next year are given. They find the account.
 pub fn open_year_check(
     name: &str,
     year: u32,
@@ -185,32 +171,18 @@ pub fn open_year_check(
     is_open: bool,
     has_calendar: bool,
     has_next: bool,
-) -> Option<Answer>
-    ensures { result
-        ≡ first_of (open_year_checks name.now year account is_open has_calendar has_next) }
+) -> Result<Account, Answer>
+    ensures { PassesWith (open_year_checks name.now year account is_open has_calendar has_next)
+        (λ found. account ≡ Some found) result }
 {
-    if !is_account_name(name.as_bytes()) {
-        return Some(Err(Refusal::BadName));
-    }
-    if !is_between(2001, 2098, year) {
-        return Some(Err(Refusal::BadYear));
-    }
-    let Some(account) = account else {
-        return Some(Err(Refusal::UnknownAccount));
-    };
-    if is_open {
-        return Some(Ok(Reply::Already));
-    }
-    if account.start.year() > year {
-        return Some(Err(Refusal::BeforeStart));
-    }
-    if !has_calendar {
-        return Some(Err(Refusal::CalendarMissing(year)));
-    }
-    if !has_next {
-        return Some(Err(Refusal::CalendarMissing(year + 1)));
-    }
-    None
+    needs(is_account_name(name.as_bytes()), Refusal::BadName)?;
+    needs(can_be_opened(year), Refusal::BadYear)?;
+    let account = account.ok_or(Err(Refusal::UnknownAccount))?;
+    unless_done(is_open)?;
+    needs(account.start.year() <= year, Refusal::BeforeStart)?;
+    needs(has_calendar, Refusal::CalendarMissing(year))?;
+    needs(has_next, Refusal::CalendarMissing(year + 1))?;
+    Ok(account)
 }
 
 /// Whether the run that is known has this content, voided or not.
@@ -224,7 +196,7 @@ fn is_same_run(known: &PayRun, run: &PayRun) -> bool
 }
 
 /// The checks of a pay run, where this is known of the account, of the run's number, whether the
-/// year of its payday is open, and how many runs the account has.
+/// year of its payday is open, and how many runs the account has. They find the account.
 pub fn post_check(
     name: &str,
     number: u32,
@@ -233,63 +205,43 @@ pub fn post_check(
     known: Option<Voidable<PayRun>>,
     is_open: bool,
     count: u32,
-) -> Option<Answer>
-    ensures { result ≡ first_of (post_checks name.now number run.now account known is_open count) }
+) -> Result<Account, Answer>
+    ensures { PassesWith (post_checks name.now number run.now account known is_open count)
+        (λ found. account ≡ Some found) result }
 {
-    if !is_account_name(name.as_bytes()) {
-        return Some(Err(Refusal::BadName));
-    }
-    if !is_between(2001, 2098, run.payday.year()) {
-        return Some(Err(Refusal::BadDay));
-    }
-    if !is_amount(run.fit) || !is_amount(run.ss) || !is_amount(run.medicare) {
-        return Some(Err(Refusal::BadCents));
-    }
-    if !is_number(number) {
-        return Some(Err(Refusal::BadNumber));
-    }
-    let Some(account) = account else {
-        return Some(Err(Refusal::UnknownAccount));
-    };
+    needs(is_account_name(name.as_bytes()), Refusal::BadName)?;
+    needs(can_be_opened(run.payday.year()), Refusal::BadDay)?;
+    needs(are_amounts(run), Refusal::BadCents)?;
+    needs(is_number(number), Refusal::BadNumber)?;
+    let account = account.ok_or(Err(Refusal::UnknownAccount))?;
     if let Some(known) = known {
         let same = is_same_run(&known.value, run);
-        return Some(known_as(same, Refusal::RunDiffers));
+        return Err(known_as(same, Refusal::RunDiffers));
     }
-    if run.payday < account.start {
-        return Some(Err(Refusal::BeforeStart));
-    }
-    if !is_open {
-        return Some(Err(Refusal::YearNotOpen(run.payday.year())));
-    }
-    if count >= MOST_ENTRIES {
-        return Some(Err(Refusal::TooManyRuns));
-    }
-    None
+    needs(account.start <= run.payday, Refusal::BeforeStart)?;
+    needs(is_open, Refusal::YearNotOpen(run.payday.year()))?;
+    needs(count < MOST_ENTRIES, Refusal::TooManyRuns)?;
+    Ok(account)
 }
 
-/// The checks of a run that is voided, where this is known of the account and of the number.
+/// The checks of a run that is voided, where this is known of the account and of the number. They
+/// find the account and the run.
 pub fn void_check(
     name: &str,
     number: u32,
     account: Option<Account>,
     known: Option<Voidable<PayRun>>,
-) -> Option<Answer>
-    ensures { result ≡ first_of (void_checks name.now number account known) }
+) -> Result<(Account, PayRun), Answer>
+    ensures { PassesWith (void_checks name.now number account known)
+        (λ found. (account ≡ Some found.0)
+        × (known ≡ Some (record { value = found.1; voided = false }))) result }
 {
-    if !is_account_name(name.as_bytes()) {
-        return Some(Err(Refusal::BadName));
-    }
-    if !is_number(number) {
-        return Some(Err(Refusal::BadNumber));
-    }
-    if account.is_none() {
-        return Some(Err(Refusal::UnknownAccount));
-    }
-    match known {
-        None => Some(Err(Refusal::UnknownRun)),
-        Some(known) if known.voided => Some(Ok(Reply::Already)),
-        Some(_) => None,
-    }
+    needs(is_account_name(name.as_bytes()), Refusal::BadName)?;
+    needs(is_number(number), Refusal::BadNumber)?;
+    let account = account.ok_or(Err(Refusal::UnknownAccount))?;
+    let known = known.ok_or(Err(Refusal::UnknownRun))?;
+    unless_done(known.voided)?;
+    Ok((account, known.value))
 }
 
 /// Whether the payment that is known has this content, voided or not.
@@ -311,41 +263,28 @@ pub fn pay_check(
     known: Option<Voidable<Payment>>,
     is_open: bool,
     count: u32,
-) -> Option<Answer>
-    ensures { result
-        ≡ first_of (pay_checks name.now number payment.now account known is_open count) }
+) -> Result<(), Answer>
+    ensures { Passes (pay_checks name.now number payment.now account known is_open count) result }
 {
-    if !is_account_name(name.as_bytes()) {
-        return Some(Err(Refusal::BadName));
-    }
-    if !is_between(2001, 2099, payment.paid.year())
-        || !is_between(2001, 2098, payment.for_day.year())
-    {
-        return Some(Err(Refusal::BadDay));
-    }
-    if payment.cents.0 < 1 || !is_amount(payment.cents) {
-        return Some(Err(Refusal::BadCents));
-    }
-    if !is_number(number) {
-        return Some(Err(Refusal::BadNumber));
-    }
-    let Some(account) = account else {
-        return Some(Err(Refusal::UnknownAccount));
-    };
+    needs(is_account_name(name.as_bytes()), Refusal::BadName)?;
+    let paid = can_have_calendar(payment.paid.year());
+    needs(
+        paid && can_be_opened(payment.for_day.year()),
+        Refusal::BadDay,
+    )?;
+    needs(
+        1 <= payment.cents.0 && is_amount(payment.cents),
+        Refusal::BadCents,
+    )?;
+    needs(is_number(number), Refusal::BadNumber)?;
+    let account = account.ok_or(Err(Refusal::UnknownAccount))?;
     if let Some(known) = known {
         let same = is_same_payment(&known.value, payment);
-        return Some(known_as(same, Refusal::PaymentDiffers));
+        return Err(known_as(same, Refusal::PaymentDiffers));
     }
-    if payment.for_day < account.start {
-        return Some(Err(Refusal::BeforeStart));
-    }
-    if !is_open {
-        return Some(Err(Refusal::YearNotOpen(payment.for_day.year())));
-    }
-    if count >= MOST_ENTRIES {
-        return Some(Err(Refusal::TooManyPayments));
-    }
-    None
+    needs(account.start <= payment.for_day, Refusal::BeforeStart)?;
+    needs(is_open, Refusal::YearNotOpen(payment.for_day.year()))?;
+    needs(count < MOST_ENTRIES, Refusal::TooManyPayments)
 }
 
 /// The checks of a payment that is voided, where this is known of the account and of the number.
@@ -354,72 +293,52 @@ pub fn void_payment_check(
     number: u32,
     account: Option<Account>,
     known: Option<Voidable<Payment>>,
-) -> Option<Answer>
-    ensures { result ≡ first_of (void_payment_checks name.now number account known) }
+) -> Result<(), Answer>
+    ensures { Passes (void_payment_checks name.now number account known) result }
 {
-    if !is_account_name(name.as_bytes()) {
-        return Some(Err(Refusal::BadName));
-    }
-    if !is_number(number) {
-        return Some(Err(Refusal::BadNumber));
-    }
-    if account.is_none() {
-        return Some(Err(Refusal::UnknownAccount));
-    }
-    match known {
-        None => Some(Err(Refusal::UnknownPayment)),
-        Some(known) if known.voided => Some(Ok(Reply::Already)),
-        Some(_) => None,
-    }
+    needs(is_account_name(name.as_bytes()), Refusal::BadName)?;
+    needs(is_number(number), Refusal::BadNumber)?;
+    needs(account.is_some(), Refusal::UnknownAccount)?;
+    let known = known.ok_or(Err(Refusal::UnknownPayment))?;
+    unless_done(known.voided)
 }
 
 /// The checks of a day whose deposit schedule is asked for, where this is known of the account, and
-/// whether the day's year is open.
-pub fn status_check(name: &str, day: Day, account: Option<Account>, is_open: bool) -> Option<Answer>
-    ensures { result ≡ first_of (status_checks name.now day account is_open) }
+/// whether the day's year is open. They find the account.
+pub fn status_check(
+    name: &str,
+    day: Day,
+    account: Option<Account>,
+    is_open: bool,
+) -> Result<Account, Answer>
+    ensures { PassesWith (status_checks name.now day account is_open)
+        (λ found. account ≡ Some found) result }
 {
-    if !is_account_name(name.as_bytes()) {
-        return Some(Err(Refusal::BadName));
-    }
-    if !is_between(2001, 2098, day.year()) {
-        return Some(Err(Refusal::BadDay));
-    }
-    if account.is_none() {
-        return Some(Err(Refusal::UnknownAccount));
-    }
-    if !is_open {
-        return Some(Err(Refusal::YearNotOpen(day.year())));
-    }
-    None
+    needs(is_account_name(name.as_bytes()), Refusal::BadName)?;
+    needs(can_be_opened(day.year()), Refusal::BadDay)?;
+    let account = account.ok_or(Err(Refusal::UnknownAccount))?;
+    needs(is_open, Refusal::YearNotOpen(day.year()))?;
+    Ok(account)
 }
 
 /// The checks of a quarter whose due list is asked for as of a day, where this is known of the
-/// account, and whether the quarter's year is open.
+/// account, and whether the quarter's year is open. They find the account.
 pub fn due_list_check(
     name: &str,
     quarter: Quarter,
     as_of: Day,
     account: Option<Account>,
     is_open: bool,
-) -> Option<Answer>
-    ensures { result ≡ first_of (due_list_checks name.now quarter as_of account is_open) }
+) -> Result<Account, Answer>
+    ensures { PassesWith (due_list_checks name.now quarter as_of account is_open)
+        (λ found. account ≡ Some found) result }
 {
-    if !is_account_name(name.as_bytes()) {
-        return Some(Err(Refusal::BadName));
-    }
-    if !is_between(2001, 2098, quarter.year()) {
-        return Some(Err(Refusal::BadYear));
-    }
-    if !is_between(2001, 2099, as_of.year()) {
-        return Some(Err(Refusal::BadDay));
-    }
-    if account.is_none() {
-        return Some(Err(Refusal::UnknownAccount));
-    }
-    if !is_open {
-        return Some(Err(Refusal::YearNotOpen(quarter.year())));
-    }
-    None
+    needs(is_account_name(name.as_bytes()), Refusal::BadName)?;
+    needs(can_be_opened(quarter.year()), Refusal::BadYear)?;
+    needs(can_have_calendar(as_of.year()), Refusal::BadDay)?;
+    let account = account.ok_or(Err(Refusal::UnknownAccount))?;
+    needs(is_open, Refusal::YearNotOpen(quarter.year()))?;
+    Ok(account)
 }
 
 /// The checks of a quarter whose liability by day is asked for, where this is known of the account,
@@ -429,75 +348,48 @@ pub fn schedule_b_check(
     quarter: Quarter,
     account: Option<Account>,
     is_open: bool,
-) -> Option<Answer>
-    ensures { result ≡ first_of (schedule_b_checks name.now quarter account is_open) }
+) -> Result<(), Answer>
+    ensures { Passes (schedule_b_checks name.now quarter account is_open) result }
 {
-    if !is_account_name(name.as_bytes()) {
-        return Some(Err(Refusal::BadName));
-    }
-    if !is_between(2001, 2098, quarter.year()) {
-        return Some(Err(Refusal::BadYear));
-    }
-    let Some(account) = account else {
-        return Some(Err(Refusal::UnknownAccount));
-    };
-    if !is_form(account.form, Form::F941) {
-        return Some(Err(Refusal::WrongForm));
-    }
-    if !is_open {
-        return Some(Err(Refusal::YearNotOpen(quarter.year())));
-    }
-    None
+    needs(is_account_name(name.as_bytes()), Refusal::BadName)?;
+    needs(can_be_opened(quarter.year()), Refusal::BadYear)?;
+    let account = account.ok_or(Err(Refusal::UnknownAccount))?;
+    needs(is_form(account.form, Form::F941), Refusal::WrongForm)?;
+    needs(is_open, Refusal::YearNotOpen(quarter.year()))
 }
 
 /// The checks of two days between which what is due over all accounts is asked for, as of a day.
-pub fn agenda_check(from: Day, to: Day, as_of: Day) -> Option<Answer>
-    ensures { result ≡ first_of (agenda_checks from to as_of) }
+pub fn agenda_check(from: Day, to: Day, as_of: Day) -> Result<(), Answer>
+    ensures { Passes (agenda_checks from to as_of) result }
 {
-    if !is_between(2001, 2099, from.year()) || !is_between(2001, 2099, to.year()) {
-        return Some(Err(Refusal::BadDay));
-    }
-    if !is_between(2001, 2099, as_of.year()) {
-        return Some(Err(Refusal::BadDay));
-    }
-    None
+    let both = can_have_calendar(from.year()) && can_have_calendar(to.year());
+    needs(both, Refusal::BadDay)?;
+    needs(can_have_calendar(as_of.year()), Refusal::BadDay)
 }
 
 /// The checks of a day until which what is due and not paid is asked for, as of a day.
-pub fn owed_check(until: Day, as_of: Day) -> Option<Answer>
-    ensures { result ≡ first_of (owed_checks until as_of) }
+pub fn owed_check(until: Day, as_of: Day) -> Result<(), Answer>
+    ensures { Passes (owed_checks until as_of) result }
 {
-    if !is_between(2001, 2099, until.year()) {
-        return Some(Err(Refusal::BadDay));
-    }
-    if !is_between(2001, 2099, as_of.year()) {
-        return Some(Err(Refusal::BadDay));
-    }
-    None
+    needs(can_have_calendar(until.year()), Refusal::BadDay)?;
+    needs(can_have_calendar(as_of.year()), Refusal::BadDay)
 }
 
 /// The checks of a day until which money that counts for nothing is asked for.
-pub fn unapplied_check(until: Day) -> Option<Answer>
-    ensures { result ≡ first_of (unapplied_checks until) }
+pub fn unapplied_check(until: Day) -> Result<(), Answer>
+    ensures { Passes (unapplied_checks until) result }
 {
-    if is_between(2001, 2099, until.year()) {
-        None
-    } else {
-        Some(Err(Refusal::BadDay))
-    }
+    needs(can_have_calendar(until.year()), Refusal::BadDay)
 }
 
-/// The checks of an account of which what is kept is asked for, where this is known of it.
-pub fn kept_of_check(name: &str, account: Option<Account>) -> Option<Answer>
-    ensures { result ≡ first_of (kept_of_checks name.now account) }
+/// The checks of an account of which what is kept is asked for, where this is known of it. They
+/// find the account.
+pub fn kept_of_check(name: &str, account: Option<Account>) -> Result<Account, Answer>
+    ensures { PassesWith (kept_of_checks name.now account) (λ found. account ≡ Some found) result }
 {
-    if !is_account_name(name.as_bytes()) {
-        return Some(Err(Refusal::BadName));
-    }
-    if account.is_none() {
-        return Some(Err(Refusal::UnknownAccount));
-    }
-    None
+    needs(is_account_name(name.as_bytes()), Refusal::BadName)?;
+    let account = account.ok_or(Err(Refusal::UnknownAccount))?;
+    Ok(account)
 }
 
 /// The checks of an account and a quarter of which the runs or payments are asked for, where this
@@ -506,30 +398,18 @@ pub fn kept_in_quarter_check(
     name: &str,
     quarter: Quarter,
     account: Option<Account>,
-) -> Option<Answer>
-    ensures { result ≡ first_of (kept_in_quarter_checks name.now quarter account) }
+) -> Result<(), Answer>
+    ensures { Passes (kept_in_quarter_checks name.now quarter account) result }
 {
-    if !is_account_name(name.as_bytes()) {
-        return Some(Err(Refusal::BadName));
-    }
-    if !is_between(2001, 2098, quarter.year()) {
-        return Some(Err(Refusal::BadYear));
-    }
-    if account.is_none() {
-        return Some(Err(Refusal::UnknownAccount));
-    }
-    None
+    needs(is_account_name(name.as_bytes()), Refusal::BadName)?;
+    needs(can_be_opened(quarter.year()), Refusal::BadYear)?;
+    needs(account.is_some(), Refusal::UnknownAccount)
 }
 
 /// The checks of a year whose holidays are asked for, where its calendar was given or not.
-pub fn holidays_check(year: u32, is_given: bool) -> Option<Answer>
-    ensures { result ≡ first_of (holidays_checks year is_given) }
+pub fn holidays_check(year: u32, is_given: bool) -> Result<(), Answer>
+    ensures { Passes (holidays_checks year is_given) result }
 {
-    if !is_between(2001, 2099, year) {
-        return Some(Err(Refusal::BadYear));
-    }
-    if !is_given {
-        return Some(Err(Refusal::CalendarMissing(year)));
-    }
-    None
+    needs(can_have_calendar(year), Refusal::BadYear)?;
+    needs(is_given, Refusal::CalendarMissing(year))
 }

@@ -1,115 +1,66 @@
-//! The checks of corrections, in the order in which they decide. Each function answers what the
-//! first check says that answers, or None where all pass. None takes memory.
+//! The checks of corrections, in the order in which they decide. Each function passes, with what it
+//! found where something rests on that, or fails with what the first check that answers says. None
+//! takes memory.
 
-ghost use Rattle.std.specs.Prelude.{◌≡◌, ◌≤◌, option_copied};
-ghost use Rattle.ftd_machine.specs.Checks.{first_of};
+ghost use Rattle.std.specs.Prelude.{◌≡◌, ◌≤◌, ◌∷◌, [], Some, option_copied};
+ghost use Rattle.ftd_machine.specs.Checks.{PassesWith, Passes};
 ghost use Rattle.ftd_machine.specs.Requests.{change_holiday_checks, correct_account_checks};
-ghost use Rattle.ftd_machine.specs.Requests.{correct_report_checks, correct_report_year_checks};
-ghost use Rattle.ftd_machine.specs.Requests.{is_next};
+ghost use Rattle.ftd_machine.specs.Requests.{correct_total_checks, is_next, missing_for};
+ghost use Rattle.ftd_machine.specs.Requests.{same_beginning};
 
-use crate::checks::{Answer, is_form, known_as};
-use crate::entries::{Account, Beginning};
-use crate::limits::{is_amount, is_between, is_number};
+use crate::checks::{Answer, is_form, known_as, needs};
+use crate::entries::{Account, Beginning, ReturnPeriod};
+use crate::limits::{LAST_OPEN_YEAR, can_be_reported, can_have_calendar, is_amount, is_number};
 use crate::replies::Refusal;
-use ftd_days::{Cents, Day, Quarter};
-use ftd_rules::{Form, is_account_name};
+use ftd_days::{Cents, Day};
+use ftd_rules::is_account_name;
 
-/// The answer where the number is not the next one of the corrections, of which there are so many.
-fn next_check(number: u32, count: u32) -> Option<Answer>
+/// The number is the next one of the corrections, of which there are so many.
+fn is_next(number: u32, count: u32) -> Result<(), Answer>
     requires positive { 1 ≤ number }
-    ensures { result ≡ is_next number count }
+    ensures { Passes (is_next number count ∷ []) result }
 {
-    if number - 1 == count {
-        None
-    } else {
-        Some(Err(Refusal::NumberSkipped(count)))
+    needs(number - 1 == count, Refusal::NumberSkipped(count))
+}
+
+/// The refusal of a total that is not reported.
+fn missing_for(period: &ReturnPeriod) -> Refusal
+    ensures { result ≡ missing_for period.now }
+{
+    match period {
+        ReturnPeriod::Quarter(quarter) => Refusal::QuarterMissing(*quarter),
+        ReturnPeriod::Year(year) => Refusal::YearMissing(*year),
     }
 }
 
-/// The checks of a quarter's figure that is corrected, where this is known of the account, of the
-/// quarter and of the number, and how many corrections the quarter has.
-pub fn correct_report_check(
+/// The checks of a total that is corrected, where this is known of the account, of the period and
+/// of the number, and how many corrections the total has. They find the account.
+pub fn correct_total_check(
     name: &str,
-    quarter: Quarter,
+    period: &ReturnPeriod,
     number: u32,
     cents: Cents,
     account: Option<Account>,
     reported: Option<Cents>,
     known: Option<Cents>,
     count: u32,
-) -> Option<Answer>
-    ensures { result
-        ≡ first_of (correct_report_checks name.now quarter number cents account reported known
-        count) }
+) -> Result<Account, Answer>
+    ensures { PassesWith
+        (correct_total_checks name.now period.now number cents account reported known count)
+        (λ found. account ≡ Some found) result }
 {
-    if !is_account_name(name.as_bytes()) {
-        return Some(Err(Refusal::BadName));
-    }
-    if !is_between(1999, 2098, quarter.year()) {
-        return Some(Err(Refusal::BadYear));
-    }
-    if !is_amount(cents) {
-        return Some(Err(Refusal::BadCents));
-    }
-    if !is_number(number) {
-        return Some(Err(Refusal::BadNumber));
-    }
-    let Some(account) = account else {
-        return Some(Err(Refusal::UnknownAccount));
-    };
-    if !is_form(account.form, Form::F941) {
-        return Some(Err(Refusal::WrongForm));
-    }
-    if reported.is_none() {
-        return Some(Err(Refusal::QuarterMissing(quarter)));
-    }
+    needs(is_account_name(name.as_bytes()), Refusal::BadName)?;
+    needs(can_be_reported(period.year()), Refusal::BadYear)?;
+    needs(is_amount(cents), Refusal::BadCents)?;
+    needs(is_number(number), Refusal::BadNumber)?;
+    let account = account.ok_or(Err(Refusal::UnknownAccount))?;
+    needs(is_form(account.form, period.form()), Refusal::WrongForm)?;
+    needs(reported.is_some(), missing_for(period))?;
     if let Some(known) = known {
-        return Some(known_as(known.0 == cents.0, Refusal::CorrectionDiffers));
+        return Err(known_as(known.0 == cents.0, Refusal::CorrectionDiffers));
     }
-    next_check(number, count)
-}
-
-/// The checks of a year's figure that is corrected, where this is known of the account, of the year
-/// and of the number, and how many corrections the year has.
-pub fn correct_report_year_check(
-    name: &str,
-    year: u32,
-    number: u32,
-    cents: Cents,
-    account: Option<Account>,
-    reported: Option<Cents>,
-    known: Option<Cents>,
-    count: u32,
-) -> Option<Answer>
-    ensures { result
-        ≡ first_of (correct_report_year_checks name.now year number cents account reported known
-        count) }
-{
-    if !is_account_name(name.as_bytes()) {
-        return Some(Err(Refusal::BadName));
-    }
-    if !is_between(1999, 2098, year) {
-        return Some(Err(Refusal::BadYear));
-    }
-    if !is_amount(cents) {
-        return Some(Err(Refusal::BadCents));
-    }
-    if !is_number(number) {
-        return Some(Err(Refusal::BadNumber));
-    }
-    let Some(account) = account else {
-        return Some(Err(Refusal::UnknownAccount));
-    };
-    if !is_form(account.form, Form::F943) {
-        return Some(Err(Refusal::WrongForm));
-    }
-    if reported.is_none() {
-        return Some(Err(Refusal::YearMissing(year)));
-    }
-    if let Some(known) = known {
-        return Some(known_as(known.0 == cents.0, Refusal::CorrectionDiffers));
-    }
-    next_check(number, count)
+    is_next(number, count)?;
+    Ok(account)
 }
 
 /// The checks of a day that is taken back as a holiday, or made one again, where this is known of
@@ -122,26 +73,30 @@ pub fn change_holiday_check(
     added: &[Day],
     known: Option<bool>,
     count: u32,
-) -> Option<Answer>
-    ensures { result ≡ first_of (change_holiday_checks day number is_one
-        (option_copied calendar.entry) added.now known count) }
+) -> Result<(), Answer>
+    ensures { Passes (change_holiday_checks day number is_one
+        (option_copied calendar.entry) added.now known count) result }
 {
-    if !is_between(2001, 2099, day.year()) {
-        return Some(Err(Refusal::BadDay));
-    }
-    if !is_number(number) {
-        return Some(Err(Refusal::BadNumber));
-    }
+    needs(can_have_calendar(day.year()), Refusal::BadDay)?;
+    needs(is_number(number), Refusal::BadNumber)?;
     let Some(calendar) = calendar else {
-        return Some(Err(Refusal::CalendarMissing(day.year())));
+        return Err(Err(Refusal::CalendarMissing(day.year())));
     };
-    if !calendar.contains(&day) && !added.contains(&day) {
-        return Some(Err(Refusal::NoHoliday));
-    }
+    needs(
+        calendar.contains(&day) || added.contains(&day),
+        Refusal::NoHoliday,
+    )?;
     if let Some(known) = known {
-        return Some(known_as(known == is_one, Refusal::CorrectionDiffers));
+        return Err(known_as(known == is_one, Refusal::CorrectionDiffers));
     }
-    next_check(number, count)
+    is_next(number, count)
+}
+
+/// Whether the correction that is known begins the account so.
+fn is_same_beginning(known: &Beginning, beginning: &Beginning) -> bool
+    ensures { result ≡ same_beginning beginning.now known.now }
+{
+    known.start == beginning.start && known.carried == beginning.carried
 }
 
 /// The checks of an account that is put right, where this is known of it and of the number, whether
@@ -154,28 +109,18 @@ pub fn correct_account_check(
     known: Option<Beginning>,
     is_unused: bool,
     count: u32,
-) -> Option<Answer>
-    ensures { result ≡ first_of (correct_account_checks name.now number beginning.now account known
-        is_unused count) }
+) -> Result<(), Answer>
+    ensures { Passes (correct_account_checks name.now number beginning.now account known is_unused
+        count) result }
 {
-    if !is_account_name(name.as_bytes()) {
-        return Some(Err(Refusal::BadName));
-    }
-    if beginning.start.year() > 2098 {
-        return Some(Err(Refusal::BadDay));
-    }
-    if !is_number(number) {
-        return Some(Err(Refusal::BadNumber));
-    }
-    if account.is_none() {
-        return Some(Err(Refusal::UnknownAccount));
-    }
+    needs(is_account_name(name.as_bytes()), Refusal::BadName)?;
+    needs(beginning.start.year() <= LAST_OPEN_YEAR, Refusal::BadDay)?;
+    needs(is_number(number), Refusal::BadNumber)?;
+    needs(account.is_some(), Refusal::UnknownAccount)?;
     if let Some(known) = known {
-        let same = known.start == beginning.start && known.carried == beginning.carried;
-        return Some(known_as(same, Refusal::CorrectionDiffers));
+        let same = is_same_beginning(&known, beginning);
+        return Err(known_as(same, Refusal::CorrectionDiffers));
     }
-    if !is_unused {
-        return Some(Err(Refusal::AccountInUse));
-    }
-    next_check(number, count)
+    needs(is_unused, Refusal::AccountInUse)?;
+    is_next(number, count)
 }

@@ -28,3 +28,28 @@ pub enum ReturnPeriod {
     Quarter(Quarter),
     Year(u32),
 }
+
+impl ReturnPeriod {
+    ghost use Rattle.std.specs.Prelude.{◌≡◌};
+    ghost use Rattle.ftd_machine.specs.Requests.{form_for, year_of_period};
+
+    /// The form whose return is about it.
+    pub fn form(&self) -> Form
+        ensures { result ≡ form_for self.now }
+    {
+        match self {
+            ReturnPeriod::Quarter(_) => Form::F941,
+            ReturnPeriod::Year(_) => Form::F943,
+        }
+    }
+
+    /// Its year.
+    pub fn year(&self) -> u32
+        ensures { result ≡ year_of_period self.now }
+    {
+        match self {
+            ReturnPeriod::Quarter(quarter) => quarter.year(),
+            ReturnPeriod::Year(year) => *year,
+        }
+    }
+}

@@ -20,12 +20,10 @@ mod requests;
 pub use crate::checks::{
     Answer, add_holiday_check, agenda_check, calendar_check, due_list_check, enrol_check,
     holidays_check, kept_in_quarter_check, kept_of_check, open_year_check, owed_check, pay_check,
-    post_check, report_check, report_year_check, schedule_b_check, status_check, unapplied_check,
-    void_check, void_payment_check,
+    post_check, report_check, schedule_b_check, status_check, unapplied_check, void_check,
+    void_payment_check,
 };
-pub use crate::corrections::{
-    change_holiday_check, correct_account_check, correct_report_check, correct_report_year_check,
-};
+pub use crate::corrections::{change_holiday_check, correct_account_check, correct_total_check};
 pub use crate::entries::{Account, Beginning, ReturnPeriod};
 pub use crate::explained::{
     CountedDay, CountedDays, DayKind, Explanation, RunningSum, RunningSums,
@@ -37,7 +35,10 @@ pub use crate::kept::{
     KeptAccount, KeptAccounts, KeptHoliday, KeptHolidays, KeptPayment, KeptPayments, KeptRows,
     KeptRun, KeptRuns, KeptTotal, KeptTotals, KeptYear, KeptYears,
 };
-pub use crate::limits::{MOST_ENTRIES, MOST_HOLIDAYS, are_rising, are_sums_bounded};
+pub use crate::limits::{
+    FIRST_REPORTED_YEAR, FIRST_YEAR, LAST_OPEN_YEAR, LAST_YEAR, MOST_CENTS, MOST_ENTRIES,
+    MOST_HOLIDAYS, MOST_NUMBER, are_rising, are_sums_bounded,
+};
 pub use crate::lists::{
     AccountName, AgendaRow, AgendaRows, DaySums, Days, DueRows, ListOf, UnappliedRow, UnappliedRows,
 };

@@ -5,11 +5,12 @@ ghost use Rattle.std.specs.List.{list_all, sum_by};
 ghost use Rattle.ftd_days.specs.Calendar.{quarter_start, year_of};
 ghost use Rattle.ftd_rules.specs.Liability.{cents_of};
 ghost use Rattle.ftd_rules.specs.Verdicts.{amount_of};
-ghost use Rattle.ftd_machine.specs.Limits.{amounts_end, is_between, is_amount};
+ghost use Rattle.ftd_machine.specs.Limits.{amounts_end, are_amounts, is_amount};
 ghost use Rattle.ftd_machine.specs.Limits.{is_number, are_rising, is_calendar};
+ghost use Rattle.ftd_machine.specs.Limits.{can_be_opened, can_be_reported, can_have_calendar};
 
 use ftd_days::{Cents, Day, Quarter};
-use ftd_rules::{AMOUNTS_END, DaySum, DueRow};
+use ftd_rules::{AMOUNTS_END, DaySum, DueRow, PayRun};
 
 /// The most runs of an account, and the most payments, voided ones too.
 pub const MOST_ENTRIES: u32 = 20_000;
@@ -18,13 +19,44 @@ pub const MOST_ENTRIES: u32 = 20_000;
 pub const MOST_HOLIDAYS: usize = 60;
 
 /// The largest amount that a request may name, in cents.
-const MOST_CENTS: u64 = 99_999_999_999;
+pub const MOST_CENTS: u64 = 99_999_999_999;
 
-/// Whether the year is one of these.
-pub(crate) fn is_between(from: u32, to: u32, year: u32) -> bool
-    ensures { result ≡ is_between from to year }
+/// The greatest number of a run, of a payment, or of a correction.
+pub const MOST_NUMBER: u32 = 999_999_999;
+
+/// The first year whose total may be reported: a lookback period begins up to two years before the
+/// year that it is for.
+pub const FIRST_REPORTED_YEAR: u32 = 1999;
+
+/// The first year that may be opened, and whose holidays may be given.
+pub const FIRST_YEAR: u32 = 2001;
+
+/// The last year that may be opened, and whose total may be reported.
+pub const LAST_OPEN_YEAR: u32 = 2098;
+
+/// The last year whose holidays may be given. Days on which something is paid or asked for lie in
+/// it or before.
+pub const LAST_YEAR: u32 = 2099;
+
+/// Whether the year may be opened.
+pub(crate) fn can_be_opened(year: u32) -> bool
+    ensures { result ≡ can_be_opened year }
 {
-    from <= year && year <= to
+    FIRST_YEAR <= year && year <= LAST_OPEN_YEAR
+}
+
+/// Whether the year's holidays may be given.
+pub(crate) fn can_have_calendar(year: u32) -> bool
+    ensures { result ≡ can_have_calendar year }
+{
+    FIRST_YEAR <= year && year <= LAST_YEAR
+}
+
+/// Whether the year's total may be reported.
+pub(crate) fn can_be_reported(year: u32) -> bool
+    ensures { result ≡ can_be_reported year }
+{
+    FIRST_REPORTED_YEAR <= year && year <= LAST_OPEN_YEAR
 }
 
 /// Whether a request may name the amount.
@@ -34,11 +66,18 @@ pub(crate) fn is_amount(cents: Cents) -> bool
     cents.0 <= MOST_CENTS
 }
 
+/// Whether the three amounts of the run are such that a request may name them.
+pub(crate) fn are_amounts(run: &PayRun) -> bool
+    ensures { result ≡ are_amounts run.now }
+{
+    is_amount(run.fit) && is_amount(run.ss) && is_amount(run.medicare)
+}
+
 /// Whether it is the number of a run or of a payment.
 pub(crate) fn is_number(number: u32) -> bool
     ensures { result ≡ is_number number }
 {
-    1 <= number && number <= 999_999_999
+    1 <= number && number <= MOST_NUMBER
 }
 
 /// Whether each day is before the next.

@@ -2,9 +2,9 @@
 use Rattle.std.proofs.Common.{◌≡◌, ◌≢◌, ◌∙◌, ◌==◌, ◌≤◌, refl, sym, ap, subst, inl, inr, ℕ, ◌+◌, ◌-◌}
 use Rattle.std.proofs.Common.{Bool, true, false, List, [], ◌∷◌, ◌++◌, map, length, Option, Some}
 use Rattle.std.proofs.Common.{None, Vec, arith}
-use Rattle.std.specs.Prelude.{◌||◌, filter, is_some, if◌then◌else◌}
+use Rattle.std.specs.Prelude.{◌||◌, filter, nat_le, if◌then◌else◌}
 use Rattle.std.specs.List.{list_any}
-use Rattle.std.proofs.lemmas.Bool.{eqb-true}
+use Rattle.std.proofs.lemmas.Bool.{and_parts, eqb-true, leb-true}
 use Rattle.std.proofs.lemmas.List.{append-nil, length-map}
 use Rattle.std.proofs.lemmas.List.Elements.{filter-append}
 use Rattle.ftd_days.specs.Calendar.{quarter_start, year_start}
@@ -34,40 +34,44 @@ use Rattle.ftd_machine.specs.declared.entries.Account.{Account}
 use Rattle.ftd_machine.specs.declared.requests.Request.{Request}
 use Rattle.ftd_machine.specs.declared.requests.Request.TheVariants.{Correct}
 use Rattle.ftd_machine.specs.declared.requests.Correction.TheVariants as correction
+use Rattle.ftd_machine.specs.declared.entries.ReturnPeriod.{ReturnPeriod}
 use Rattle.ftd_machine.specs.declared.entries.ReturnPeriod.TheVariants.{Quarter, Year}
 use Rattle.ftd_machine.specs.State.{State, Entry, entries_of, is_open, has_key}
 use Rattle.ftd_machine.specs.State.{content_of, kept_at, numbered, all_at, latest}
+use Rattle.ftd_machine.specs.State.{corrections_at, reported_at}
 use Rattle.ftd_machine.specs.History.{figure_of, figures, form_of, start_of, IsLookbackOn}
 use Rattle.ftd_machine.specs.History.{HasLookback}
 use Rattle.ftd_machine.specs.Checks.{Answer, first_of}
-use Rattle.ftd_machine.specs.Requests.{correct_report_checks, correct_report_year_checks}
-use Rattle.ftd_machine.specs.Step.{Step, with_entry}
+use Rattle.ftd_machine.specs.Requests.{correct_total_checks, year_of_period}
+use Rattle.ftd_machine.specs.Limits.{can_be_reported}
+use Rattle.ftd_machine.specs.Step.{Step, first_day_of, with_entry}
 use Rattle.ftd_machine.specs.Sound.{IsSound}
 use Rattle.ftd_machine.proofs.Adding.{entry_own, entry_other}
 use Rattle.ftd_machine.proofs.Deciding.{decided, passed}
-use Rattle.ftd_machine.proofs.Heads.{Gives, gives_finds, gives_needs, skip_needs, skip_finds}
+use Rattle.ftd_machine.proofs.Heads.{Gives, gives_needs, skip_needs, skip_finds}
 use Rattle.ftd_machine.proofs.Heads.{skip_new}
 use Rattle.ftd_machine.proofs.Soundness.{sound_once}
-use Rattle.ftd_entries.specs.Known.{amounts_of, cents_of}
+use Rattle.ftd_entries.specs.Known.{FindsTotal, amounts_of, cents_of}
 use Rattle.ftd_entries.specs.Opening.{is_line_of}
 use Rattle.ftd_entries.specs.Standing.{StandsFor, KeepsFigures, correction_entry}
 use Rattle.ftd_entries.specs.Standing.{year_correction_entry}
+use Rattle.ftd_entries.proofs.Corrected.{corrections_known, year_corrections_known}
 use Rattle.ftd_entries.proofs.Kept.{kept_reported, kept_reported_year}
 use Rattle.ftd_entries.proofs.KnownYears.{open_lines}
 use Rattle.ftd_entries.proofs.Entered.{entered, corrected_more}
 use Rattle.ftd_entries.proofs.Totals.{SameAt, lookback_same}
 use Rattle.ftd_machine.specs.declared.replies.Difference.{Difference}
 use Rattle.ftd_repairs.specs.Reopened.{IsRetotaled}
-use Rattle.ftd_posting.specs.Correcting.{EntersFigure, IsFollowed, IsOnlyYearOf}
-use Rattle.ftd_posting.specs.Correcting.{KnowsCorrected, KnowsForReport, KnowsForYear, unchanged}
-use Rattle.ftd_posting.specs.declared.correcting.KnownForFigure.{KnownForFigure}
-use Rattle.ftd_posting.specs.declared.figures.FigureEntry.TheVariants.{OfQuarter, OfYear}
+use Rattle.ftd_posting.specs.Correcting.{EntersTotal, IsCountedIn, IsFollowed, IsOnlyYearOf}
+use Rattle.ftd_posting.specs.Correcting.{KnowsCorrected, KnowsForTotal, ListsCorrectionsOf}
+use Rattle.ftd_posting.specs.Correcting.{unchanged, with_corrected}
+use Rattle.ftd_posting.specs.declared.correcting.KnownForTotal.{KnownForTotal}
 use Rattle.ftd_posting.proofs.CorrectedState.{Entered, entered_stands, entered_told}
 use Rattle.ftd_posting.proofs.CorrectedState.{retotaled_stands, retotaled_told}
 use Rattle.ftd_posting.proofs.PostedRuns.{told, form_is}
 
 -- the corrections that were listed, as they are known
-pub corrected_as_listed : {A : Type 0} (number : ℕ) (before : KnownForFigure)
+pub corrected_as_listed : {A : Type 0} (number : ℕ) (before : KnownForTotal)
     (kept : State → List Cents) (found : Vec Correction A) (t : Tables)
     → ((s : State) → StandsFor t s → amounts_of found.items ≡ kept s)
     → before.known ≡ numbered number (amounts_of found.items)
@@ -160,6 +164,68 @@ in_force_as name found t v accounts corrections f = record {
   is_last = f.is_last;
 }
 
+-- ---- the checks
+
+-- the total that was first reported, as each state keeps it
+kept_total : (name : List ℕ) (period : ReturnPeriod) (found : Option Cents) (t : Tables) (s : State)
+    → StandsFor t s → FindsTotal name period found t
+    → reported_at (entries_of s name) period ≡ found
+kept_total name (Quarter quarter) found t s stands finds =
+    kept_reported name t s stands quarter found finds
+kept_total name (Year year) found t s stands finds =
+    kept_reported_year name t s stands year found finds
+
+module _ (name : List ℕ) (period : ReturnPeriod) (number : ℕ) (cents : Cents) (year : ℕ) where
+  abbrev pub total_checks : KnownForTotal → Option Answer
+  total_checks known = first_of (correct_total_checks name period number cents known.account
+      known.reported known.known known.count)
+
+  total_checks_are : (known : KnownForTotal) (t : Tables) (s : State) → StandsFor t s
+      → KnowsForTotal name period number year known t
+      → first_of (correct_total_checks name period number cents (entries_of s name).account
+      (reported_at (entries_of s name) period)
+      (numbered number (corrections_at (entries_of s name) period))
+      (length (corrections_at (entries_of s name) period))) ≡ total_checks known
+  total_checks_are known t s stands knows =
+      rw (
+        knows.account s stands,
+        kept_total name period known.reported t s stands knows.reported,
+        knows.corrected.known s stands,
+        knows.corrected.count s stands,
+      ) refl
+
+  pub total_decided : (known : KnownForTotal) (answer : Answer)
+      → total_checks known ≡ Some answer → (t : Tables) (s : State) → StandsFor t s → IsSound s
+      → KnowsForTotal name period number year known t
+      → Step s (Correct number (correction.Total name period cents)) answer s
+  total_decided known answer is t s stands sound knows = decided _ s answer _
+      (total_checks_are known t s stands knows ∙ is)
+
+next_number : (name : List ℕ) (period : ReturnPeriod) (number : ℕ) (cents : Cents)
+    (account : Option Account) (reported known : Option Cents) (count : ℕ)
+    → first_of (correct_total_checks name period number cents account reported known count)
+    ≡ None → number ≡ count + 1
+next_number name period number cents account reported known count is =
+    let P = correct_total_checks name period number cents account reported known count in
+    let next : Gives P ((number == count + 1) ≡ true) =
+    skip_needs _ _ _ _ (skip_needs _ _ _ _ (skip_needs _ _ _ _ (skip_needs _ _ _ _
+    (skip_finds _ _ _ _ (skip_needs _ _ _ _ (skip_finds _ _ _ _ (skip_new _ _ _ _ _
+    (gives_needs _ _ _)))))))) in
+    eqb-true number (count + 1) (next.fact is)
+
+-- a total of a year in range is reported where all checks pass
+pub total_in_range : (name : List ℕ) (period : ReturnPeriod) (number : ℕ) (cents : Cents)
+    (account : Option Account) (reported known : Option Cents) (count : ℕ)
+    → first_of (correct_total_checks name period number cents account reported known count)
+    ≡ None → year_of_period period ≤ 2098
+total_in_range name period number cents account reported known count is =
+    let P = correct_total_checks name period number cents account reported known count in
+    let between : Gives P (can_be_reported (year_of_period period) ≡ true) =
+    skip_needs _ _ _ _ (gives_needs _ _ _) in
+    leb-true (year_of_period period) 2098
+    (and_parts (nat_le 1999 (year_of_period period)) (nat_le (year_of_period period) 2098)
+    (between.fact is)).1
+
 -- ---- of a quarter
 
 module _ (name : List ℕ) (quarter number : ℕ) (cents : Cents) (year : ℕ)
@@ -226,66 +292,22 @@ module _ (name : List ℕ) (quarter number : ℕ) (cents : Cents) (year : ℕ)
         }) were.days were.paid);
       }
 
-  -- ---- the checks
-
-  abbrev pub quarter_checks : KnownForFigure → Option Answer
-  quarter_checks known = first_of (correct_report_checks name quarter number cents known.account
-      known.reported known.known known.count)
-
-  quarter_checks_are : (known : KnownForFigure) (t : Tables) (s : State) → StandsFor t s
-      → KnowsForReport name quarter number year known t
-      → first_of (correct_report_checks name quarter number cents (entries_of s name).account
-      (kept_at quarter (entries_of s name).reported)
-      (numbered number (all_at quarter (entries_of s name).corrected))
-      (length (all_at quarter (entries_of s name).corrected))) ≡ quarter_checks known
-  quarter_checks_are known t s stands knows =
-      rw (
-        knows.account s stands,
-        kept_reported name t s stands quarter known.reported knows.reported,
-        knows.corrected.known s stands,
-        knows.corrected.count s stands,
-      ) refl
-
-  pub quarter_decided : (known : KnownForFigure) (answer : Answer)
-      → quarter_checks known ≡ Some answer → (t : Tables) (s : State) → StandsFor t s → IsSound s
-      → KnowsForReport name quarter number year known t → Step s QuarterAsked answer s
-  quarter_decided known answer is t s stands sound knows = decided _ s answer _
-      (quarter_checks_are known t s stands knows ∙ is)
-
-  quarter_next_number : (account : Option Account) (reported known : Option Cents) (count : ℕ)
-      → first_of (correct_report_checks name quarter number cents account reported known count)
-      ≡ None → number ≡ count + 1
-  quarter_next_number account reported known count is =
-      let P = correct_report_checks name quarter number cents account reported known count in
-      let next : Gives P ((number == count + 1) ≡ true) =
-      skip_needs _ _ _ _ (skip_needs _ _ _ _ (skip_needs _ _ _ _ (skip_needs _ _ _ _
-      (skip_finds _ _ _ _ (skip_needs _ _ _ _ (skip_finds _ _ _ _ (skip_new _ _ _ _ _
-      (gives_needs _ _ _)))))))) in
-      eqb-true number (count + 1) (next.fact is)
-
-  pub quarter_account_known : (known : KnownForFigure) → quarter_checks known ≡ None
-      → is_some known.account ≡ true
-  quarter_account_known known is =
-      let P = correct_report_checks name quarter number cents known.account known.reported
-      known.known known.count in
-      let finds : Gives P (is_some known.account ≡ true) =
-      skip_needs _ _ _ _ (skip_needs _ _ _ _ (skip_needs _ _ _ _ (skip_needs _ _ _ _
-      (gives_finds _ _ _)))) in
-      finds.fact is
-
   -- all checks pass
-  pub quarter_done : (known : KnownForFigure) (account : Account) (difference : Difference)
-      → quarter_checks known ≡ None → known.account ≡ Some account
+  quarter_done : (known : KnownForTotal) (account : Account) (difference : Difference)
+      → total_checks name (Quarter quarter) number cents year known ≡ None
+      → known.account ≡ Some account
       → (t u : Tables) (s : State) → StandsFor t s → IsSound s
-      → KnowsForReport name quarter number year known t
-      → EntersFigure name account known.is_open (quarter_start quarter) year
-      (OfQuarter quarter quarter_correction) difference t u
+      → KnowsForTotal name (Quarter quarter) number year known t
+      → EntersTotal name account known.is_open (quarter_start quarter) year WithQuarter difference t
+      u
       → (next : State) × Step s QuarterAsked (told difference) next × StandsFor u next
   quarter_done known account difference is account_is t u s stands sound knows enters =
       let own = entries_of s name in
       let next = quarter_next s in
-      let pass = quarter_checks_are known t s stands knows ∙ is in
-      let count = quarter_next_number own.account (kept_at quarter own.reported)
+      let pass = total_checks_are name (Quarter quarter) number cents year known t s stands knows
+      ∙ is in
+      let count = next_number name (Quarter quarter) number cents own.account
+      (kept_at quarter own.reported)
       (numbered number (all_at quarter own.corrected)) (length (all_at quarter own.corrected))
       pass in
       let entered = quarter_entered t s stands count in
@@ -401,72 +423,23 @@ module _ (name : List ℕ) (reported_year number : ℕ) (cents : Cents) (countin
         }) were.days were.paid);
       }
 
-  -- ---- the checks
-
-  abbrev pub year_checks : KnownForFigure → Option Answer
-  year_checks known = first_of (correct_report_year_checks name reported_year number cents
-      known.account
-      known.reported known.known known.count)
-
-  year_checks_are : (known : KnownForFigure) (t : Tables) (s : State) → StandsFor t s
-      → KnowsForYear name reported_year number counting known t
-      → first_of (correct_report_year_checks name reported_year number cents
-      (entries_of s name).account
-      (kept_at reported_year (entries_of s name).reported_years)
-      (numbered number (all_at reported_year (entries_of s name).corrected_years))
-      (length (all_at reported_year (entries_of s name).corrected_years))) ≡ year_checks known
-  year_checks_are known t s stands knows =
-      rw (
-        knows.account s stands,
-        kept_reported_year name t s stands reported_year known.reported knows.reported,
-        knows.corrected.known s stands,
-        knows.corrected.count s stands,
-      ) refl
-
-  pub year_decided : (known : KnownForFigure) (answer : Answer)
-      → year_checks known ≡ Some answer → (t : Tables) (s : State) → StandsFor t s → IsSound s
-      → KnowsForYear name reported_year number counting known t → Step s YearAsked answer s
-  year_decided known answer is t s stands sound knows = decided _ s answer _
-      (year_checks_are known t s stands knows ∙ is)
-
-  year_next_number : (account : Option Account) (reported known : Option Cents) (count : ℕ)
-      → first_of (correct_report_year_checks name reported_year number cents account reported known
-      count)
-      ≡ None → number ≡ count + 1
-  year_next_number account reported known count is =
-      let P = correct_report_year_checks name reported_year number cents account reported known
-      count in
-      let next : Gives P ((number == count + 1) ≡ true) =
-      skip_needs _ _ _ _ (skip_needs _ _ _ _ (skip_needs _ _ _ _ (skip_needs _ _ _ _
-      (skip_finds _ _ _ _ (skip_needs _ _ _ _ (skip_finds _ _ _ _ (skip_new _ _ _ _ _
-      (gives_needs _ _ _)))))))) in
-      eqb-true number (count + 1) (next.fact is)
-
-  pub year_account_known : (known : KnownForFigure) → year_checks known ≡ None
-      → is_some known.account ≡ true
-  year_account_known known is =
-      let P = correct_report_year_checks name reported_year number cents known.account
-      known.reported
-      known.known known.count in
-      let finds : Gives P (is_some known.account ≡ true) =
-      skip_needs _ _ _ _ (skip_needs _ _ _ _ (skip_needs _ _ _ _ (skip_needs _ _ _ _
-      (gives_finds _ _ _)))) in
-      finds.fact is
-
   -- all checks pass
-  pub year_done : counting ≡ reported_year + 2
-      → (known : KnownForFigure) (account : Account) (difference : Difference)
-      → year_checks known ≡ None → known.account ≡ Some account
+  year_done : counting ≡ reported_year + 2
+      → (known : KnownForTotal) (account : Account) (difference : Difference)
+      → total_checks name (Year reported_year) number cents counting known ≡ None
+      → known.account ≡ Some account
       → (t u : Tables) (s : State) → StandsFor t s → IsSound s
-      → KnowsForYear name reported_year number counting known t
-      → EntersFigure name account known.is_open (year_start reported_year) counting
-      (OfYear reported_year year_correction) difference t u
+      → KnowsForTotal name (Year reported_year) number counting known t
+      → EntersTotal name account known.is_open (year_start reported_year) counting WithYear
+      difference t u
       → (next : State) × Step s YearAsked (told difference) next × StandsFor u next
   year_done second known account difference is account_is t u s stands sound knows enters =
       let own = entries_of s name in
       let next = year_next s in
-      let pass = year_checks_are known t s stands knows ∙ is in
-      let count = year_next_number own.account (kept_at reported_year own.reported_years)
+      let pass = total_checks_are name (Year reported_year) number cents counting known t s stands
+      knows ∙ is in
+      let count = next_number name (Year reported_year) number cents own.account
+      (kept_at reported_year own.reported_years)
       (numbered number (all_at reported_year own.corrected_years))
       (length (all_at reported_year own.corrected_years))
       pass in
@@ -507,3 +480,29 @@ module _ (name : List ℕ) (reported_year number : ℕ) (cents : Cents) (countin
                   sound u first total difference k.0.1 k.0.2 has retotals,
             ))
       ]
+
+-- ---- of a quarter or a year
+
+-- all checks pass
+pub total_done : (name : List ℕ) (period : ReturnPeriod) (number : ℕ) (cents : Cents) (year : ℕ)
+    → IsCountedIn period year → (known : KnownForTotal) (account : Account)
+    (difference : Difference) → total_checks name period number cents year known ≡ None
+    → known.account ≡ Some account → (t u : Tables) (s : State) → StandsFor t s → IsSound s
+    → KnowsForTotal name period number year known t
+    → EntersTotal name account known.is_open (first_day_of period) year
+    (with_corrected name period (record { number = number; cents = cents })) difference t u
+    → (next : State) × Step s (Correct number (correction.Total name period cents))
+    (told difference) next × StandsFor u next
+total_done name (Quarter quarter) number cents year only =
+    quarter_done name quarter number cents year only
+total_done name (Year reported) number cents year second =
+    year_done name reported number cents year second
+
+-- the corrections that were listed, as each state keeps them
+pub total_corrections_known : {A : Type 0} (name : List ℕ) (period : ReturnPeriod)
+    (found : Vec Correction A) (t : Tables) → ListsCorrectionsOf name period found t → (s : State)
+    → StandsFor t s → amounts_of found.items ≡ corrections_at (entries_of s name) period
+total_corrections_known name (Quarter quarter) found t listed s stands =
+    corrections_known name quarter found t listed s stands.entries.figures
+total_corrections_known name (Year year) found t listed s stands =
+    year_corrections_known name year found t listed s stands.entries.figures

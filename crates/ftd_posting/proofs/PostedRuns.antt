@@ -2,7 +2,7 @@
 -- next state.
 use Rattle.std.proofs.Common.{◌≡◌, ◌∙◌, inl, inr, refl, sym, ap, subst, ℕ, ◌&&◌, pos, Bool, true}
 use Rattle.std.proofs.Common.{false, List, [], ◌∷◌, ◌++◌, map, length, Option, None, Some, Ok}
-use Rattle.std.specs.Prelude.{bytes_eq, filter, find, option_map, is_some, if◌then◌else◌}
+use Rattle.std.specs.Prelude.{bytes_eq, filter, find, option_map, if◌then◌else◌}
 use Rattle.std.proofs.lemmas.Bool.{true≢false, eqb-true, and_parts}
 use Rattle.std.proofs.lemmas.List.{map-append}
 use Rattle.ftd_days.specs.Calendar.{year_of}
@@ -33,8 +33,7 @@ use Rattle.ftd_machine.proofs.Adding.{entry_own, entry_other, voided_own, voided
 use Rattle.ftd_machine.proofs.Deciding.{decided, passed}
 use Rattle.ftd_machine.specs.Laws.{is_change}
 use Rattle.ftd_machine.proofs.Again.{post_turns, void_turns}
-use Rattle.ftd_machine.proofs.Heads.{IsNoChange, Gives, gives_finds, skip_needs, skip_finds}
-use Rattle.ftd_machine.proofs.Heads.{skip_done}
+use Rattle.ftd_machine.proofs.Heads.{IsNoChange}
 use Rattle.ftd_machine.proofs.Members.{has_filtered}
 use Rattle.ftd_entries.specs.Standing.{StandsFor, run_entry}
 use Rattle.ftd_entries.specs.Known.{KnowsAccount}
@@ -101,15 +100,6 @@ module _ (name : List ℕ) (number : ℕ) (run : PayRun) (count : ℕ) where
         (entry_own s.runs name number (taken run))
         ∙ day_added other (filter (is_of name) s.runs) name number run (λ same. apart (sym same));
   }
-
-  -- the account of a run that passes is known
-  pub account_known : (known : KnownForPost) → checks known ≡ None → is_some known.account ≡ true
-  account_known known is =
-      let finds : Gives (post_checks name number run known.account known.kept known.is_open count)
-      (is_some known.account ≡ true) =
-      skip_needs _ _ _ _
-      (skip_needs _ _ _ _ (skip_needs _ _ _ _ (skip_needs _ _ _ _ (gives_finds _ _ _)))) in
-      finds.fact is
 
   -- a check that decides tells of no change
   pub post_quiet : (known : KnownForPost) (answer : Answer) → checks known ≡ Some answer
@@ -228,24 +218,6 @@ module _ (name : List ℕ) (number : ℕ) where
       (kept_at number (entries_of s name).runs)) ≡ void_checked known
   void_checks_are known t s stands knows =
       rw (knows.account s stands, kept_run name t s stands number known.kept knows.kept) refl
-
-  -- the account and the run are known where all checks pass
-  pub void_account_known : (known : KnownForVoid) → void_checked known ≡ None
-      → is_some known.account ≡ true
-  void_account_known known is =
-      let finds : Gives (void_checks name number known.account known.kept)
-      (is_some known.account ≡ true) =
-      skip_needs _ _ _ _ (skip_needs _ _ _ _ (gives_finds _ _ _)) in
-      finds.fact is
-
-  pub void_run_known : (known : KnownForVoid) → void_checked known ≡ None
-      → is_some known.kept ≡ true
-  void_run_known known is =
-      let finds : Gives (void_checks name number known.account known.kept)
-      (is_some known.kept ≡ true) =
-      skip_needs _ _ _ _
-      (skip_needs _ _ _ _ (skip_finds _ _ _ _ (skip_done _ _ _ (gives_finds _ _ _)))) in
-      finds.fact is
 
   -- a check that decides tells of no change
   pub void_quiet : (known : KnownForVoid) (answer : Answer)

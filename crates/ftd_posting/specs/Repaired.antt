@@ -1,7 +1,6 @@
 -- What becomes of the tables where a run is posted or voided, whatever they hold.
-use Rattle.std.specs.Prelude.{◌≡◌, true, ℕ, ◌+◌, Bool, List, Some, Ok, ⊤}
+use Rattle.std.specs.Prelude.{◌≡◌, true, ℕ, Bool, List, Some, Ok, ⊤}
 use Rattle.sqlite.specs.Effect.{Database}
-use Rattle.ftd_days.specs.Calendar.{quarter_start, year_start}
 use Rattle.ftd_days.specs.declared.cents.Cents.{Cents}
 use Rattle.ftd_rules.specs.declared.Form.{Form}
 use Rattle.ftd_rules.specs.declared.run.PayRun.{PayRun}
@@ -16,12 +15,11 @@ use Rattle.ftd_machine.specs.declared.replies.Reply.TheVariants.{Posted}
 use Rattle.ftd_machine.specs.declared.requests.Request.{Request}
 use Rattle.ftd_machine.specs.declared.requests.Request.TheVariants.{Post, Void, Correct}
 use Rattle.ftd_machine.specs.declared.requests.Correction.TheVariants as correction
-use Rattle.ftd_machine.specs.declared.entries.ReturnPeriod.TheVariants.{Quarter, Year}
+use Rattle.ftd_machine.specs.declared.entries.ReturnPeriod.{ReturnPeriod}
 use Rattle.ftd_machine.specs.declared.replies.Difference.{Difference}
 use Rattle.ftd_repairs.specs.Reposted.{IsReposted}
-use Rattle.ftd_posting.specs.Correcting.{EntersFigure, IsOnlyYearOf}
-use Rattle.ftd_posting.specs.declared.figures.FigureEntry.{FigureEntry}
-use Rattle.ftd_posting.specs.declared.figures.FigureEntry.TheVariants.{OfQuarter, OfYear}
+use Rattle.ftd_machine.specs.Step.{first_day_of}
+use Rattle.ftd_posting.specs.Correcting.{EntersTotal, IsCountedIn, with_corrected}
 
 -- the rows of the account, whose runs of the day had changed, were repaired by the form of its row,
 -- and the answer tells how its obligations differ
@@ -44,28 +42,24 @@ VoidsRun name number answer old new =
     (run : Voidable PayRun) × FindsRun name number (Some run) old
     × IsRepaired name run.value.payday old (with_void_run name number old) new answer
 
--- a figure of the account was corrected: its correction was entered, and where the year is open in
+-- a total of the account was corrected: its correction was entered, and where the year is open in
 -- whose lookback period it counts, the account's rows were repaired by the form of its row
-pub record IsCorrected (name : List ℕ) (first year : ℕ) (entry : FigureEntry) (answer : Answer)
+pub record IsCorrected (name : List ℕ) (first year : ℕ) (enters : Tables → Tables) (answer : Answer)
     (old new : Tables) : Type 0 where
   pub account : Account
   pub has_form : FindsForm name (Some account.form) old
   pub is_open : Bool
   pub difference : Difference
   pub told : answer ≡ Ok (Posted difference)
-  pub entered : EntersFigure name account is_open first year entry difference old new
+  pub entered : EntersTotal name account is_open first year enters difference old new
 
--- that of a quarter, or of a year
-abbrev pub CorrectsQuarter : List ℕ → ℕ → ℕ → Cents → Answer → Tables → Tables → Type 0
-CorrectsQuarter name quarter number cents answer old new =
-    (year : ℕ) × IsOnlyYearOf quarter year
-    × IsCorrected name (quarter_start quarter) year
-    (OfQuarter quarter (record { number = number; cents = cents })) answer old new
-
-abbrev pub CorrectsYear : List ℕ → ℕ → ℕ → Cents → Answer → Tables → Tables → Type 0
-CorrectsYear name year number cents answer old new =
-    IsCorrected name (year_start year) (year + 2)
-    (OfYear year (record { number = number; cents = cents })) answer old new
+-- that of a quarter or a year
+abbrev pub CorrectsTotal
+    : List ℕ → ReturnPeriod → ℕ → Cents → Answer → Tables → Tables → Type 0
+CorrectsTotal name period number cents answer old new =
+    (year : ℕ) × IsCountedIn period year
+    × IsCorrected name (first_day_of period) year
+    (with_corrected name period (record { number = number; cents = cents })) answer old new
 
 -- where the answer tells of a change, the rows become others, which stand so to them
 abbrev pub Becoming : (Answer → Tables → Tables → Type 0)
@@ -73,12 +67,10 @@ abbrev pub Becoming : (Answer → Tables → Tables → Type 0)
 Becoming So answer before after t =
     is_change answer ≡ true → (u : Tables) × So answer t u × Becomes before after u
 
--- so of a request that posts or voids a run, or corrects a figure; nothing is said here of others
+-- so of a request that posts or voids a run, or corrects a total; nothing is said here of others
 unfoldable pub Repairs : Request → Answer → Database → Database → Tables → Type 0
 Repairs (Post name number run) = Becoming (PostsRun name number run)
 Repairs (Void name number) = Becoming (VoidsRun name number)
-Repairs (Correct number (correction.Total name (Quarter quarter) cents)) =
-    Becoming (CorrectsQuarter name quarter number cents)
-Repairs (Correct number (correction.Total name (Year year) cents)) =
-    Becoming (CorrectsYear name year number cents)
+Repairs (Correct number (correction.Total name period cents)) =
+    Becoming (CorrectsTotal name period number cents)
 Repairs other = λ answer before after t. ⊤

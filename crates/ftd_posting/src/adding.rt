@@ -24,7 +24,7 @@ pub fn add_holiday<S: Alter>(
     let year = day.year();
     let calendar = tx.calendar(alloc, year)?;
     let added = tx.added(alloc, year)?;
-    if let Some(answer) = add_holiday_check(day, calendar.as_deref(), &added) {
+    if let Err(answer) = add_holiday_check(day, calendar.as_deref(), &added) {
         return Ok(answer);
     }
     enter_and_move(tx, alloc, &DayEntry::Added(day))?;

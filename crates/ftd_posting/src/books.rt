@@ -1,7 +1,8 @@
 //! Several runs of an account are posted, one after the other, and what is known of it is read
 //! once.
 
-ghost use Rattle.std.specs.Prelude.{◌≡◌, ◌≤◌, IsTrue, None, IfOk, IfSome, MatchOption, OnOk};
+ghost use Rattle.std.specs.Prelude.{◌≡◌, ◌≤◌, IsTrue, None, Some, IfOk, IfSome, MatchOption};
+ghost use Rattle.std.specs.Prelude.{MatchResult, OnOk};
 ghost use Rattle.ftd_days.specs.Calendar.{year_of, year_start, last_day};
 ghost use Rattle.ftd_machine.specs.State.{State};
 ghost use Rattle.ftd_machine.specs.Sound.{IsSound};
@@ -13,7 +14,7 @@ ghost use Rattle.ftd_posting.specs.Books.{checks_by, first_year, greatest_known}
 
 use ftd_buckets::Window;
 use ftd_days::Day;
-use ftd_entries::{has_year, is_open, known};
+use ftd_entries::{has_year, is_open, known_account};
 use ftd_machine::{Account, Answer, Reply, post_check};
 use ftd_repairs::Ledger;
 use ftd_rules::{PayRun, Voidable};
@@ -71,7 +72,7 @@ impl Book {
             → IsSound s → MatchOption found (HasNoYear s name.now year) (IsBook s name.now)) }
         ensures year { IfOk result (λ found. IfSome found (λ book. first_year book ≡ year)) }
     {
-        let Some(account) = known(tx, alloc, name)? else {
+        let Some(account) = known_account(tx, alloc, name)? else {
             return Ok(None);
         };
         let there = is_open(tx, alloc, name, year)?;
@@ -118,7 +119,7 @@ impl Book {
         let greatest = self.greatest_of(count);
         if !self.is_new(name, number, &run, count) {
             let kept = tx.run(name, number)?;
-            if let Some(answer) = self.check(name, number, &run, kept, count) {
+            if let Err(answer) = self.check(name, number, &run, kept, count) {
                 return Ok(answer);
             }
         }
@@ -136,8 +137,10 @@ impl Book {
         run: &PayRun,
         kept: Option<Voidable<PayRun>>,
         count: u32,
-    ) -> Option<Answer>
-        ensures { result ≡ checks_by name.now number run.now count self.now kept }
+    ) -> Result<Account, Answer>
+        ensures { MatchResult result
+            (λ account. checks_by name.now number run.now count self.now kept ≡ None)
+            (λ answer. checks_by name.now number run.now count self.now kept ≡ Some answer) }
     {
         let is_open = has_year(&self.ledger.years.lines, run.payday.year());
         post_check(name, number, run, Some(self.account), kept, is_open, count)
@@ -160,7 +163,7 @@ impl Book {
     {
         match self.greatest_of(count) {
             Some(greatest) if number > greatest => {
-                self.check(name, number, run, None, count).is_none()
+                self.check(name, number, run, None, count).is_ok()
             }
             _ => false,
         }

@@ -106,7 +106,7 @@ pub fn change_holiday<S: Alter>(
         numbered(&before.words, number),
         before.count,
     );
-    if let Some(answer) = checked {
+    if let Err(answer) = checked {
         return Ok(answer);
     }
     let change = HolidayChange {

@@ -1,31 +1,29 @@
-//! Figures that were reported are corrected.
+//! Totals that were reported are corrected.
 
-ghost use Rattle.std.specs.Prelude.{◌≡◌, ◌+◌};
+ghost use Rattle.std.specs.Prelude.{◌≡◌};
 ghost use Rattle.ftd_store.specs.Frame.{Calls, Reads};
 ghost use Rattle.ftd_machine.specs.State.{numbered};
 ghost use Rattle.ftd_machine.specs.declared.requests.Request.TheVariants.{Correct};
 ghost use Rattle.ftd_machine.specs.declared.requests.Correction.TheVariants as correction;
-ghost use Rattle.ftd_machine.specs.declared.entries.ReturnPeriod.TheVariants as periods;
 ghost use Rattle.ftd_entries.specs.Known.{amounts_of};
 ghost use Rattle.ftd_entries.specs.Words.{Serves};
-ghost use Rattle.ftd_posting.specs.Correcting.{KnowsForReport, KnowsForYear};
-ghost use Rattle.ftd_posting.specs.Repaired.{Becoming, CorrectsQuarter, CorrectsYear};
+ghost use Rattle.ftd_posting.specs.Correcting.{KnowsForTotal, ListsCorrectionsOf};
+ghost use Rattle.ftd_posting.specs.Repaired.{Becoming, CorrectsTotal};
 
-use crate::books::days_from;
-use crate::figures::{FigureEntry, enter_and_follow, year_counting};
-use ftd_days::{Cents, Quarter};
-use ftd_entries::{is_open, known};
-use ftd_machine::{Account, Answer, Reply, correct_report_check, correct_report_year_check};
+use crate::totals::{TotalCorrection, enter_and_follow, first_day, year_counting_total};
+use ftd_days::Cents;
+use ftd_entries::{first_reported, is_open, known_account};
+use ftd_machine::{Account, Answer, Reply, ReturnPeriod, correct_total_check};
 use ftd_store::{Correction, StoreFault, Tx};
 use sqlite::Alter;
 use std::alloc::Global;
 
-/// What is known of an account and of one of its figures before that is corrected.
+/// What is known of an account and of one of its totals before that is corrected.
 #[derive(Drop)]
-pub(crate) struct KnownForFigure {
+pub(crate) struct KnownForTotal {
     /// The account, if it is enrolled.
     pub account: Option<Account>,
-    /// The figure as it was first reported, in cents, if it was.
+    /// The total as it was first reported, in cents, if it was.
     pub reported: Option<Cents>,
     /// Its correction of the number, in cents, if there is one.
     pub known: Option<Cents>,
@@ -43,27 +41,43 @@ fn numbered(corrections: &[Correction], number: u32) -> Option<Cents>
     Some(correction.cents)
 }
 
-/// What is known before the quarter's figure is corrected under this number. `Failed` also where it
-/// has more corrections than a number can tell.
-fn known_for_report<S: Alter>(
+/// The corrections of the total, by number.
+fn corrections_of<S: Alter>(
     tx: &mut Tx<'_, S>,
     alloc: Global,
     name: &str,
-    quarter: Quarter,
+    period: &ReturnPeriod,
+) -> Result<Vec<Correction>, StoreFault>
+    ensures call { Reads S.Store tx.old tx.new result
+        (ListsCorrectionsOf name.now period.now) }
+{
+    match period {
+        ReturnPeriod::Quarter(quarter) => tx.corrections(alloc, name, *quarter),
+        ReturnPeriod::Year(year) => tx.year_corrections(alloc, name, *year),
+    }
+}
+
+/// What is known before the total of the period is corrected under this number. `Failed` also where
+/// it has more corrections than a number can tell.
+fn known_for_total<S: Alter>(
+    tx: &mut Tx<'_, S>,
+    alloc: Global,
+    name: &str,
+    period: &ReturnPeriod,
     number: u32,
     year: u32,
-) -> Result<KnownForFigure, StoreFault>
+) -> Result<KnownForTotal, StoreFault>
     ensures call { Reads S.Store tx.old tx.new result
-        (KnowsForReport name.now quarter number year) }
+        (KnowsForTotal name.now period.now number year) }
 {
-    let account = known(tx, alloc, name)?;
-    let reported = tx.reported(name, quarter)?;
+    let account = known_account(tx, alloc, name)?;
+    let reported = first_reported(tx, name, period)?;
     let is_open = is_open(tx, alloc, name, year)?;
-    let corrections = tx.corrections(alloc, name, quarter)?;
+    let corrections = corrections_of(tx, alloc, name, period)?;
     let Ok(count) = u32::try_from(corrections.len()) else {
         return tx.give_up(StoreFault::Failed);
     };
-    Ok(KnownForFigure {
+    Ok(KnownForTotal {
         account,
         reported,
         known: numbered(&corrections, number),
@@ -72,56 +86,27 @@ fn known_for_report<S: Alter>(
     })
 }
 
-/// What is known before the year's figure is corrected under this number. `Failed` also where it
-/// has more corrections than a number can tell.
-fn known_for_year<S: Alter>(
+/// Corrects the total that an account reported for a quarter, on Form 941, or a year, on Form 943,
+/// under a number. It is answered how the obligations that come differ from those that go, or why
+/// the correction is refused; a refused one changes nothing.
+pub fn correct_total<S: Alter>(
     tx: &mut Tx<'_, S>,
     alloc: Global,
     name: &str,
-    reported_year: u32,
-    number: u32,
-    year: u32,
-) -> Result<KnownForFigure, StoreFault>
-    ensures call { Reads S.Store tx.old tx.new result
-        (KnowsForYear name.now reported_year number year) }
-{
-    let account = known(tx, alloc, name)?;
-    let reported = tx.reported_year(name, reported_year)?;
-    let is_open = is_open(tx, alloc, name, year)?;
-    let corrections = tx.year_corrections(alloc, name, reported_year)?;
-    let Ok(count) = u32::try_from(corrections.len()) else {
-        return tx.give_up(StoreFault::Failed);
-    };
-    Ok(KnownForFigure {
-        account,
-        reported,
-        known: numbered(&corrections, number),
-        count,
-        is_open,
-    })
-}
-
-/// Corrects the figure that an account on Form 941 reported for the quarter, under a number. It is
-/// answered how the obligations that come differ from those that go, or why the correction is
-/// refused; a refused one changes nothing.
-pub fn correct_report<S: Alter>(
-    tx: &mut Tx<'_, S>,
-    alloc: Global,
-    name: &str,
-    quarter: Quarter,
+    period: &ReturnPeriod,
     number: u32,
     cents: Cents,
 ) -> Result<Answer, StoreFault>
     ensures call { Calls S.Store tx.old tx.new result
-        (Serves (Correct number (correction.Total name.now (periods.Quarter quarter) cents))) }
+        (Serves (Correct number (correction.Total name.now period.now cents))) }
     ensures repairs { Calls S.Store tx.old tx.new result (λ answer before after.
-        Becoming (CorrectsQuarter name.now quarter number cents) answer before.now after.now) }
+        Becoming (CorrectsTotal name.now period.now number cents) answer before.now after.now) }
 {
-    let year = year_counting(quarter);
-    let before = known_for_report(tx, alloc, name, quarter, number, year)?;
-    let checked = correct_report_check(
+    let year = year_counting_total(period);
+    let before = known_for_total(tx, alloc, name, period, number, year)?;
+    let checked = correct_total_check(
         name,
-        quarter,
+        period,
         number,
         cents,
         before.account,
@@ -129,56 +114,20 @@ pub fn correct_report<S: Alter>(
         before.known,
         before.count,
     );
-    if let Some(answer) = checked {
-        return Ok(answer);
-    }
-    let account = before.account.unwrap();
-    let entry = FigureEntry::OfQuarter(quarter, Correction { number, cents });
-    let first = quarter.first();
-    let is_open = before.is_open;
-    let difference = enter_and_follow(tx, alloc, name, account, is_open, first, year, &entry)?;
-    Ok(Ok(Reply::Posted(difference)))
-}
-
-/// Corrects the figure that an account on Form 943 reported for the year, under a number. It is
-/// answered how the obligations that come differ from those that go, or why the correction is
-/// refused; a refused one changes nothing.
-pub fn correct_report_year<S: Alter>(
-    tx: &mut Tx<'_, S>,
-    alloc: Global,
-    name: &str,
-    year: u32,
-    number: u32,
-    cents: Cents,
-) -> Result<Answer, StoreFault>
-    ensures call { Calls S.Store tx.old tx.new result
-        (Serves (Correct number (correction.Total name.now (periods.Year year) cents))) }
-    ensures repairs { Calls S.Store tx.old tx.new result (λ answer before after.
-        Becoming (CorrectsYear name.now year number cents) answer before.now after.now) }
-{
-    let counting = year.saturating_add(2);
-    let before = known_for_year(tx, alloc, name, year, number, counting)?;
-    let checked = correct_report_year_check(
-        name,
+    let account = match checked {
+        Ok(account) => account,
+        Err(answer) => return Ok(answer),
+    };
+    let Some(first) = first_day(period) else {
+        return tx.give_up(StoreFault::Failed);
+    };
+    let it = TotalCorrection {
+        period: *period,
+        correction: Correction { number, cents },
+        first,
         year,
-        number,
-        cents,
-        before.account,
-        before.reported,
-        before.known,
-        before.count,
-    );
-    if let Some(answer) = checked {
-        return Ok(answer);
-    }
-    let Some(days) = days_from(year) else {
-        return tx.give_up(StoreFault::Failed);
+        is_open: before.is_open,
     };
-    let account = before.account.unwrap();
-    let entry = FigureEntry::OfYear(year, Correction { number, cents });
-    let is_open = before.is_open;
-    let difference = enter_and_follow(
-        tx, alloc, name, account, is_open, days.from, counting, &entry,
-    )?;
+    let difference = enter_and_follow(tx, alloc, name, account, &it)?;
     Ok(Ok(Reply::Posted(difference)))
 }

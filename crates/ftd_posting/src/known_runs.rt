@@ -5,7 +5,7 @@ ghost use Rattle.ftd_store.specs.Frame.{Reads};
 ghost use Rattle.ftd_posting.specs.Runs.{KnowsForPost, KnowsForVoid};
 
 use ftd_days::Day;
-use ftd_entries::{is_open, known};
+use ftd_entries::{is_open, known_account};
 use ftd_machine::Account;
 use ftd_rules::{PayRun, Voidable};
 use ftd_store::{StoreFault, Tx};
@@ -41,7 +41,7 @@ pub(crate) fn known_for_void<S: Alter>(
 ) -> Result<KnownForVoid, StoreFault>
     ensures call { Reads S.Store tx.old tx.new result (KnowsForVoid name.now number) }
 {
-    let account = known(tx, alloc, name)?;
+    let account = known_account(tx, alloc, name)?;
     let kept = tx.run(name, number)?;
     Ok(KnownForVoid { account, kept })
 }

@@ -43,10 +43,11 @@ pub fn post<S: Alter>(
         before.is_open,
         count,
     );
-    if let Some(answer) = checked {
-        return Ok(answer);
-    }
-    let form = before.account.unwrap().form;
+    let account = match checked {
+        Ok(account) => account,
+        Err(answer) => return Ok(answer),
+    };
+    let form = account.form;
     let difference = add_repaired(tx, alloc, name, form, number, run)?;
     Ok(Ok(Reply::Posted(difference)))
 }
@@ -64,11 +65,12 @@ pub fn void<S: Alter>(
         Becoming (VoidsRun name.now number) answer before.now after.now) }
 {
     let before = known_for_void(tx, alloc, name, number)?;
-    if let Some(answer) = void_check(name, number, before.account, before.kept) {
-        return Ok(answer);
-    }
-    let form = before.account.unwrap().form;
-    let payday = before.kept.unwrap().value.payday;
+    let (account, run) = match void_check(name, number, before.account, before.kept) {
+        Ok(found) => found,
+        Err(answer) => return Ok(answer),
+    };
+    let form = account.form;
+    let payday = run.payday;
     let difference = void_repaired(tx, alloc, name, form, number, payday)?;
     Ok(Ok(Reply::Posted(difference)))
 }

@@ -8,7 +8,7 @@ use Rattle.std.proofs.lemmas.List.{append_assoc, append-nil}
 use Rattle.std.proofs.lemmas.List.Elements.{filter_map-append}
 use Rattle.std.proofs.lemmas.Bool.{or_parts}
 use Rattle.sqlite.specs.State.{Survives}
-use Rattle.ftd_csv.specs.Records.{SaidEntry}
+use Rattle.ftd_csv.specs.declared.entries.Content.{Content}
 use Rattle.ftd_machine.specs.State.{State}
 use Rattle.ftd_machine.specs.Checks.{Answer}
 use Rattle.ftd_machine.specs.Runs.{IsRun}
@@ -20,7 +20,7 @@ use Rattle.ftd_desk.specs.Trials.{Tries}
 use Rattle.ftd_desk.specs.Words.{AreAnswers, AreSteps, HandlesAll, HandlesTogether, is_fault}
 use Rattle.ftd_desk.proofs.Running.{all_none}
 use Rattle.ftd_program.specs.Outcomes.{Counts, CountsAnswers, IsNothing, IsSame, IsSummary, Outcome}
-use Rattle.ftd_program.specs.Outcomes.{answer_in, fault_in, fault_of, post_in, post_of, posted}
+use Rattle.ftd_program.specs.Outcomes.{answer_in, fault_in, fault_of, post_in, posted}
 use Rattle.ftd_program.specs.Outcomes.{posts_of, record_in, request_in, skipped}
 use Rattle.ftd_program.specs.Imports.{AreOutcomes, Asks, HandlesOrLeaves, Posts, PostsNone, StopsIn}
 use Rattle.ftd_program.specs.Imports.{StopsWithin, AsksAgain, most_together}
@@ -35,11 +35,11 @@ use Rattle.ftd_program.proofs.Outcomes.{are_then, asks_then, counts_then, no_fau
 -- the posts asked for are those of the records
 requests_are : (xs : List Outcome) → filter_map request_in xs ≡ posts_of (map record_in xs)
 requests_are [] = refl
-requests_are (posted number it answer ∷ xs) = ap (λ (z : List Request). post_of it ∷ z)
+requests_are (posted number it answer ∷ xs) = ap (λ (z : List Request). it ∷ z)
     (requests_are xs)
 requests_are (skipped number field ∷ xs) = requests_are xs
 
-pub requests_of_records : (rs : List (ℕ × SaidEntry)) (xs : List Outcome) → map record_in xs ≡ rs
+pub requests_of_records : (rs : List (ℕ × Content)) (xs : List Outcome) → map record_in xs ≡ rs
     → filter_map request_in xs ≡ posts_of rs
 requests_of_records rs xs are = requests_are xs ∙ ap posts_of are
 
@@ -77,7 +77,7 @@ steps_of_run (posted number it answer ∷ xs) none s end goes =
 steps_of_run (skipped number field ∷ xs) none s end run = steps_of_run xs none s end run
 
 -- ---- a list of records
-module _ (a b : Held) (rs : List (ℕ × SaidEntry)) (requests : List Request)
+module _ (a b : Held) (rs : List (ℕ × Content)) (requests : List Request)
     (answers : List Answer) (p q r : Summary) (is : requests ≡ posts_of rs)
     (told : AreAnswers requests answers) (same : IsSame p q)
     (counted : CountsAnswers q rs answers r) where
@@ -118,7 +118,7 @@ module _ (a b : Held) (rs : List (ℕ × SaidEntry)) (requests : List Request)
   }
 
 -- none was posted, and then all, one after the other
-pub posts_again : (failed : Type 0) (a b c : Held) (rs : List (ℕ × SaidEntry)) (p q r : Summary)
+pub posts_again : (failed : Type 0) (a b c : Held) (rs : List (ℕ × Content)) (p q r : Summary)
     → PostsNone failed a b (posts_of rs) → IsSame p q → Posts b c rs q r → Posts a c rs p r
 posts_again failed a b c rs p q r none same posts = record {
   outcomes = posts.outcomes;
@@ -138,13 +138,13 @@ posts_again failed a b c rs p q r none same posts = record {
   ];
 }
 
-shorter : (rs passed : List (ℕ × SaidEntry)) (at : ℕ × SaidEntry) (others : List (ℕ × SaidEntry))
+shorter : (rs passed : List (ℕ × Content)) (at : ℕ × Content) (others : List (ℕ × Content))
     → rs ≡ passed ++ at ∷ others → length passed < length rs
 shorter rs passed at others split = let whole = ap length split
     ∙ length-append passed (at ∷ others) in omega arith
 
 -- none was posted, and then some, one after the other
-pub stops_again : (failed later : Type 0) (a b c : Held) (rs : List (ℕ × SaidEntry))
+pub stops_again : (failed later : Type 0) (a b c : Held) (rs : List (ℕ × Content))
     (p q r : Summary)
     (why : StopCause) → length rs ≤ most_together → (failed → later)
     → PostsNone failed a b (posts_of rs) → IsSame p q → StopsIn later b c rs q r why
@@ -183,7 +183,7 @@ none_posted failed a b posts requests why is h keeps = elim keeps [
 ]
 
 -- whatever became of its records then
-pub list_again : {A : Type 0} (failed later : Type 0) (a b c : Held) (rs : List (ℕ × SaidEntry))
+pub list_again : {A : Type 0} (failed later : Type 0) (a b c : Held) (rs : List (ℕ × Content))
     (p q r : Summary) (result : Result A StopCause) → length rs ≤ most_together → (failed → later)
     → PostsNone failed a b (posts_of rs) → IsSame p q
     → MatchResult result (λ _. Posts b c rs q r) (λ why. StopsIn later b c rs q r why)
@@ -195,17 +195,17 @@ list_again failed later a b c rs p q r (Err why) short stays none same stops =
     stops_again failed later a b c rs p q r why short stays none same stops
 
 -- ---- lists of records
-regroup : (pre passed : List (ℕ × SaidEntry)) (at : ℕ × SaidEntry)
-    (others more : List (ℕ × SaidEntry))
+regroup : (pre passed : List (ℕ × Content)) (at : ℕ × Content)
+    (others more : List (ℕ × Content))
     → pre ++ ((passed ++ at ∷ others) ++ more) ≡ (pre ++ passed) ++ at ∷ (others ++ more)
 regroup pre passed at others more = simp append_assoc
 
-regroup_list : (pre before list others more : List (ℕ × SaidEntry))
+regroup_list : (pre before list others more : List (ℕ × Content))
     → pre ++ (((before ++ list) ++ others) ++ more) ≡ ((pre ++ before) ++ list) ++ (others ++ more)
 regroup_list pre before list others more = simp append_assoc
 
 -- the outcomes of the first records, before those of a list whose commit failed
-either_then : (failed : Type 0) (a b c : Held) (rs list : List (ℕ × SaidEntry))
+either_then : (failed : Type 0) (a b c : Held) (rs list : List (ℕ × Content))
     (xs ys : List Outcome)
     → AreOutcomes rs xs → Asks ⊥ a b xs
     → HandlesOrLeaves failed b c (filter_map request_in ys) (filter_map answer_in ys)
@@ -228,7 +228,7 @@ either_then failed a b c rs list xs ys are first later =
     (λ s end run. steps_of_run xs are.no_fault s end run) first later)))
 
 -- some lists were posted, and the import stopped in the next
-pub stops_later : (failed : Type 0) (a b c : Held) (pre list more all : List (ℕ × SaidEntry))
+pub stops_later : (failed : Type 0) (a b c : Held) (pre list more all : List (ℕ × Content))
     (p q r : Summary) (why : StopCause) → all ≡ pre ++ (list ++ more) → Posts a b pre p q
     → StopsWithin failed b c list (λ outcomes. Counts q outcomes r) why
     → StopsWithin failed a c all (λ outcomes. Counts p outcomes r) why
@@ -236,7 +236,7 @@ stops_later failed a b c pre list more all p q r why split posts stops = record 
   passed = pre ++ stops.passed;
   at = stops.at;
   others = stops.others ++ more;
-  split = split ∙ ap (λ (z : List (ℕ × SaidEntry)). pre ++ (z ++ more)) stops.split
+  split = split ∙ ap (λ (z : List (ℕ × Content)). pre ++ (z ++ more)) stops.split
       ∙ regroup pre stops.passed stops.at stops.others more;
   outcomes = posts.outcomes ++ stops.outcomes;
   are = are_then pre stops.passed posts.outcomes stops.outcomes posts.are stops.are;
@@ -254,7 +254,7 @@ stops_later failed a b c pre list more all p q r why split posts stops = record 
             before = pre ++ again.before;
             list = again.list;
             others = again.others ++ more;
-            split = split ∙ ap (λ (z : List (ℕ × SaidEntry)). pre ++ (z ++ more)) again.split
+            split = split ∙ ap (λ (z : List (ℕ × Content)). pre ++ (z ++ more)) again.split
                 ∙ regroup_list pre again.before again.list again.others more;
             short = again.short;
             begins = let l = length-append pre again.before in
@@ -266,7 +266,7 @@ stops_later failed a b c pre list more all p q r why split posts stops = record 
                 (filter_map request_in xs) (filter_map answer_in xs)
                 (posts_of ((pre ++ again.before) ++ again.list)))
                 (sym together)
-                (subst (λ (rs : List (ℕ × SaidEntry)). HandlesOrLeaves failed a c
+                (subst (λ (rs : List (ℕ × Content)). HandlesOrLeaves failed a c
                 (filter_map request_in (posts.outcomes ++ (stops.outcomes ++ stops.last)))
                 (filter_map answer_in (posts.outcomes ++ (stops.outcomes ++ stops.last)))
                 (posts_of rs)) (sym (append_assoc pre again.before again.list))
@@ -282,7 +282,7 @@ stops_later failed a b c pre list more all p q r why split posts stops = record 
     together = append_assoc posts.outcomes stops.outcomes stops.last
 
 -- some lists were posted, and there was no memory to read the next
-pub stops_unread : (failed : Type 0) (a b : Held) (pre left all : List (ℕ × SaidEntry))
+pub stops_unread : (failed : Type 0) (a b : Held) (pre left all : List (ℕ × Content))
     (p q : Summary)
     → all ≡ pre ++ left → 0 < length left → Posts a b pre p q
     → StopsWithin failed a b all (λ outcomes. Counts p outcomes q) cause.Memory
@@ -301,7 +301,7 @@ stops_unread failed a b pre (at ∷ others) all p q split some posts = record {
 }
 
 -- ---- the whole text
-pub stops_told : (failed : Type 0) (a b : Held) (rs : List (ℕ × SaidEntry)) (p q : Summary)
+pub stops_told : (failed : Type 0) (a b : Held) (rs : List (ℕ × Content)) (p q : Summary)
     (why : StopCause) → IsNothing p
     → StopsWithin failed a b rs (λ outcomes. Counts p outcomes q) why
     → StopsWithin failed a b rs (λ outcomes. IsSummary outcomes q) why

@@ -5,7 +5,9 @@ use Rattle.std.proofs.Common.{arith}
 use Rattle.std.specs.List.{filter, filter_map}
 use Rattle.std.proofs.lemmas.List.{append_assoc, append-nil, map-append}
 use Rattle.std.proofs.lemmas.List.Elements.{filter_map-append}
-use Rattle.ftd_csv.specs.Records.{Entry, SaidEntry, malformed, enters}
+use Rattle.ftd_csv.specs.declared.entries.Content.{Content}
+use Rattle.ftd_csv.specs.declared.entries.Content.TheVariants as content
+use Rattle.ftd_machine.specs.declared.requests.Request.{Request}
 use Rattle.ftd_machine.specs.Checks.{Answer}
 use Rattle.ftd_program.specs.Lists.{has_post}
 use Rattle.ftd_program.specs.Outcomes.{Counts, Outcome, answer_in, posted, record_in, skipped}
@@ -15,7 +17,7 @@ use Rattle.ftd_program.proofs.Places.{IsNext, is_malformed, is_entry}
 use Rattle.ftd_program.proofs.Outcomes.{counts_then}
 
 -- some records were counted, and these answers are left
-pub record CountsSome (before : Summary) (passed : List (ℕ × SaidEntry))
+pub record CountsSome (before : Summary) (passed : List (ℕ × Content))
     (answers left : List Answer)
     (after : Summary) : Type 0 where
   pub outcomes : List Outcome
@@ -23,27 +25,27 @@ pub record CountsSome (before : Summary) (passed : List (ℕ × SaidEntry))
   pub answered : filter_map answer_in outcomes ++ left ≡ answers
   pub counts : Counts before outcomes after
 
-pub some_skipped : (p q r : Summary) (rs : List (ℕ × SaidEntry)) (answers left : List Answer)
+pub some_skipped : (p q r : Summary) (rs : List (ℕ × Content)) (answers left : List Answer)
     (number field : ℕ) → CountsSome p rs answers left q → Counts q (skipped number field ∷ []) r
-    → CountsSome p (rs ++ (number, malformed field) ∷ []) answers left r
+    → CountsSome p (rs ++ (number, content.Malformed field) ∷ []) answers left r
 some_skipped p q r rs answers left number field some counts = record {
   outcomes = some.outcomes ++ skipped number field ∷ [];
   all = map-append record_in some.outcomes (skipped number field ∷ [])
-      ∙ ap (λ (z : List (ℕ × SaidEntry)). z ++ (number, malformed field) ∷ []) some.all;
+      ∙ ap (λ (z : List (ℕ × Content)). z ++ (number, content.Malformed field) ∷ []) some.all;
   answered = ap (λ (z : List Answer). z ++ left) (filter_map-append answer_in some.outcomes
       (skipped number field ∷ []) ∙ append-nil (filter_map answer_in some.outcomes))
       ∙ some.answered;
   counts = counts_then p q r some.outcomes (skipped number field ∷ []) some.counts counts;
 }
 
-pub some_posted : (p q r : Summary) (rs : List (ℕ × SaidEntry)) (answers left later : List Answer)
-    (number : ℕ) (it : Entry) (answer : Answer) → CountsSome p rs answers left q
+pub some_posted : (p q r : Summary) (rs : List (ℕ × Content)) (answers left later : List Answer)
+    (number : ℕ) (it : Request) (answer : Answer) → CountsSome p rs answers left q
     → left ≡ answer ∷ later → Counts q (posted number it answer ∷ []) r
-    → CountsSome p (rs ++ (number, enters it) ∷ []) answers later r
+    → CountsSome p (rs ++ (number, content.Entry it) ∷ []) answers later r
 some_posted p q r rs answers left later number it answer some first counts = record {
   outcomes = some.outcomes ++ posted number it answer ∷ [];
   all = map-append record_in some.outcomes (posted number it answer ∷ [])
-      ∙ ap (λ (z : List (ℕ × SaidEntry)). z ++ (number, enters it) ∷ []) some.all;
+      ∙ ap (λ (z : List (ℕ × Content)). z ++ (number, content.Entry it) ∷ []) some.all;
   answered =
       ap (λ (z : List Answer). z ++ later) (filter_map-append answer_in some.outcomes
       (posted number it answer ∷ []))
@@ -53,7 +55,7 @@ some_posted p q r rs answers left later number it answer some first counts = rec
   counts = counts_then p q r some.outcomes (posted number it answer ∷ []) some.counts counts;
 }
 
-module _ (records : List (ℕ × SaidEntry)) (i : ℕ) (place : Place)
+module _ (records : List (ℕ × Content)) (i : ℕ) (place : Place)
     (next : IsNext records i place) where
   pub skipped_more : (field : ℕ) → place.malformed ≡ Some field
       → (p q r : Summary) (answers left : List Answer)
@@ -61,21 +63,21 @@ module _ (records : List (ℕ × SaidEntry)) (i : ℕ) (place : Place)
       → Counts q (skipped place.number field ∷ []) r
       → CountsSome p (take (i + 1) records) answers left r
   skipped_more field bad p q r answers left some counts =
-      subst (λ (rs : List (ℕ × SaidEntry)). CountsSome p rs answers left r)
-      (sym (next.more ∙ ap (λ (at : ℕ × SaidEntry). take i records ++ at ∷ [])
+      subst (λ (rs : List (ℕ × Content)). CountsSome p rs answers left r)
+      (sym (next.more ∙ ap (λ (at : ℕ × Content). take i records ++ at ∷ [])
       (is_malformed next.at place field next.kept bad)))
       (some_skipped p q r (take i records) answers left place.number field some counts)
 
   pub posted_more : place.malformed ≡ None
       → (p q r : Summary) (answers left later : List Answer) (answer : Answer)
       → CountsSome p (take i records) answers left q → left ≡ answer ∷ later
-      → ((it : Entry) → next.at ≡ (place.number, enters it)
+      → ((it : Request) → next.at ≡ (place.number, content.Entry it)
       → Counts q (posted place.number it answer ∷ []) r)
       → CountsSome p (take (i + 1) records) answers later r
   posted_more none p q r answers left later answer some first counts =
       let (it, at) = is_entry next.at place next.kept none in
-      subst (λ (rs : List (ℕ × SaidEntry)). CountsSome p rs answers later r)
-      (sym (next.more ∙ ap (λ (x : ℕ × SaidEntry). take i records ++ x ∷ []) at))
+      subst (λ (rs : List (ℕ × Content)). CountsSome p rs answers later r)
+      (sym (next.more ∙ ap (λ (x : ℕ × Content). take i records ++ x ∷ []) at))
       (some_posted p q r (take i records) answers left later place.number it answer some first
       (counts it at))
 

@@ -5,7 +5,9 @@ use Rattle.std.proofs.Common.{Some, None, Ok, Err, Result, OnErr, IsTrue, length
 use Rattle.std.specs.List.{filter, filter_map}
 use Rattle.std.proofs.lemmas.List.{append_assoc, append-nil, map-append}
 use Rattle.std.proofs.lemmas.List.Elements.{filter-append, filter_map-append}
-use Rattle.ftd_csv.specs.Records.{Entry, SaidEntry, enters, malformed}
+use Rattle.ftd_csv.specs.declared.entries.Content.{Content}
+use Rattle.ftd_csv.specs.declared.entries.Content.TheVariants as content
+use Rattle.ftd_machine.specs.declared.requests.Request.{Request}
 use Rattle.ftd_machine.specs.Checks.{Answer}
 use Rattle.ftd_machine.specs.Runs.{IsFault}
 use Rattle.ftd_desk.specs.States.{CrashKeeps}
@@ -13,7 +15,7 @@ use Rattle.ftd_desk.specs.Desks.{Held}
 use Rattle.ftd_desk.specs.Words.{Handles, HandlesAll}
 use Rattle.ftd_desk.proofs.Running.{all_none, all_one, all_then}
 use Rattle.ftd_program.specs.Outcomes.{Counts, IsNothing, IsSame, IsSummary, Outcome, answer_in}
-use Rattle.ftd_program.specs.Outcomes.{change_in, fault_in, fault_of, note_in, post_of, posted}
+use Rattle.ftd_program.specs.Outcomes.{change_in, fault_in, fault_of, note_in, posted}
 use Rattle.ftd_program.specs.Outcomes.{record_in, refusal_in}
 use Rattle.ftd_program.specs.Outcomes.{request_in, skipped, was_already, was_malformed, was_posted}
 use Rattle.ftd_program.specs.Outcomes.{was_refused}
@@ -118,7 +120,7 @@ summary_of p q xs none counts = record {
       its.1 ∙ ap (λ z. z ++ filter_map change_in xs) (none.changes_are its.0));
 }
 
-pub are_then : (rs ss : List (ℕ × SaidEntry)) (xs ys : List Outcome) → AreOutcomes rs xs
+pub are_then : (rs ss : List (ℕ × Content)) (xs ys : List Outcome) → AreOutcomes rs xs
     → AreOutcomes ss ys → AreOutcomes (rs ++ ss) (xs ++ ys)
 are_then rs ss xs ys first second = record {
   all = map-append record_in xs ys ∙ ap (λ z. z ++ map record_in ys) first.all
@@ -147,7 +149,7 @@ no_fault answer none (inl memory) = let e = rw memory at none in absurd (cc)
 no_fault answer none (inr store) = let e = rw store at none in absurd (cc)
 
 -- one request that no fault answered: no commit failed
-no_commit_failed : (a b : Held) (it : Entry) (answer : Answer) → Handles a b (post_of it) answer
+no_commit_failed : (a b : Held) (it : Request) (answer : Answer) → Handles a b it answer
     → fault_of answer ≡ None → OnErr answer (⊥ ⊎ CrashKeeps a.db b.db)
 no_commit_failed a b it (Ok reply) handles none = tt
 no_commit_failed a b it (Err why) handles none =
@@ -162,7 +164,7 @@ posts_none a p = record {
   asks = all_none ⊥ a;
 }
 
-pub posts_then : (a b c : Held) (rs ss : List (ℕ × SaidEntry)) (p q r : Summary) → Posts a b rs p q
+pub posts_then : (a b c : Held) (rs ss : List (ℕ × Content)) (p q r : Summary) → Posts a b rs p q
     → Posts b c ss q r → Posts a c (rs ++ ss) p r
 posts_then a b c rs ss p q r first second = record {
   outcomes = first.outcomes ++ second.outcomes;
@@ -171,7 +173,7 @@ posts_then a b c rs ss p q r first second = record {
   asks = asks_then ⊥ a b c first.outcomes second.outcomes first.asks second.asks;
 }
 
-pub posts_same : (a b : Held) (rs : List (ℕ × SaidEntry)) (p q r : Summary) → IsSame p q
+pub posts_same : (a b : Held) (rs : List (ℕ × Content)) (p q r : Summary) → IsSame p q
     → Posts a b rs q r → Posts a b rs p r
 posts_same a b rs p q r same posts = record {
   outcomes = posts.outcomes;
@@ -181,20 +183,21 @@ posts_same a b rs p q r same posts = record {
 }
 
 -- an entry that was answered
-pub posts_one : (a b : Held) (number : ℕ) (it : Entry) (answer : Answer) (p q : Summary)
-    → Handles a b (post_of it) answer → fault_of answer ≡ None
+pub posts_one : (a b : Held) (number : ℕ) (it : Request) (answer : Answer) (p q : Summary)
+    → Handles a b it answer → fault_of answer ≡ None
     → Counts p (posted number it answer ∷ []) q
-    → Posts a b ((number, enters it) ∷ []) p q
+    → Posts a b ((number, content.Entry it) ∷ []) p q
 posts_one a b number it answer p q handles none counts = record {
   outcomes = posted number it answer ∷ [];
   are = record { all = refl; no_fault = rw none refl };
   counts = counts;
-  asks = all_one ⊥ a b (post_of it) answer handles (no_commit_failed a b it answer handles none);
+  asks = all_one ⊥ a b it answer handles (no_commit_failed a b it answer handles none);
 }
 
 -- a malformed record
 pub skips_one : (a : Held) (number field : ℕ) (p q : Summary)
-    → Counts p (skipped number field ∷ []) q → Posts a a ((number, malformed field) ∷ []) p q
+    → Counts p (skipped number field ∷ []) q
+    → Posts a a ((number, content.Malformed field) ∷ []) p q
 skips_one a number field p q counts = record {
   outcomes = skipped number field ∷ [];
   are = record { all = refl; no_fault = refl };
@@ -203,22 +206,22 @@ skips_one a number field p q counts = record {
 }
 
 -- ---- stops
-pub no_room : (failed : Type 0) (a : Held) (at : ℕ × SaidEntry) → StopsAt failed a a at cause.Memory
+pub no_room : (failed : Type 0) (a : Held) (at : ℕ × Content) → StopsAt failed a a at cause.Memory
 no_room failed a at = record { last = []; stop = inl (refl, refl); asks = all_none failed a }
 
-pub faulted : (failed : Type 0) (a b : Held) (number : ℕ) (it : Entry) (answer : Answer)
-    (why : StopCause) → Handles a b (post_of it) answer
+pub faulted : (failed : Type 0) (a b : Held) (number : ℕ) (it : Request) (answer : Answer)
+    (why : StopCause) → Handles a b it answer
     → OnErr answer (failed ⊎ CrashKeeps a.db b.db) → fault_of answer ≡ Some why
-    → StopsAt failed a b (number, enters it) why
+    → StopsAt failed a b (number, content.Entry it) why
 faulted failed a b number it answer why handles stops fault = record {
   last = posted number it answer ∷ [];
   stop = inr (posted number it answer, refl, refl, fault);
-  asks = all_one failed a b (post_of it) answer handles stops;
+  asks = all_one failed a b it answer handles stops;
 }
 
-pub posts_stop : (failed : Type 0) (a b c : Held) (rs : List (ℕ × SaidEntry)) (at : ℕ × SaidEntry)
-    (others : List (ℕ × SaidEntry))
-    (all : List (ℕ × SaidEntry)) (p q r : Summary) (why : StopCause)
+pub posts_stop : (failed : Type 0) (a b c : Held) (rs : List (ℕ × Content)) (at : ℕ × Content)
+    (others : List (ℕ × Content))
+    (all : List (ℕ × Content)) (p q r : Summary) (why : StopCause)
     → all ≡ rs ++ at ∷ others → Posts a b rs p q → StopsAt failed b c at why → IsSame q r
     → StopsIn failed a c all p r why
 posts_stop failed a b c rs at others all p q r why split posts stops keeps =

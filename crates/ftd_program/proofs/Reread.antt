@@ -21,9 +21,10 @@ use Rattle.ftd_rules.specs.Accounts.{is_account_name}
 use Rattle.ftd_rules.specs.Lists.{Has}
 use Rattle.csv.specs.Records.{field_at}
 use Rattle.ftd_csv.specs.Fields.{name_of, run_number_of}
-use Rattle.ftd_csv.specs.Records.{HasHeader, entry_in, records_of, rows_of, run_in}
-use Rattle.ftd_csv.specs.Sheets.{header_row}
+use Rattle.ftd_csv.specs.Records.{HasHeader, entry_in, records_of, rows_of}
+use Rattle.ftd_csv.specs.Sheets.{column_of, header_row}
 use Rattle.ftd_csv.specs.declared.sheets.Sheet.TheVariants.{Runs}
+use Rattle.ftd_verbs.specs.Asked.{post}
 use Rattle.ftd_answers.specs.Fields.{record_told}
 use Rattle.ftd_answers.specs.KeptForms.{live_record, run_record, runs_csv, records_head}
 use Rattle.ftd_machine.specs.Limits.{is_amount}
@@ -85,7 +86,7 @@ module _ (account : List ℕ) (name : is_account_name account ≡ true) (x : Kep
 
   -- its record is what a writer of CSV writes of its fields
   pub record_is : row_text default_writer (fields_of account x) ≡ run_record account x
-  unfolding run_record record_told
+  unfolding record_told
   record_is = row_is account (decimal x.number) _ own_fields
 
   number_reread : run_number_of (decimal x.number) ≡ Some x.number
@@ -110,7 +111,7 @@ module _ (account : List ℕ) (name : is_account_name account ≡ true) (x : Kep
 
   -- and is read as the run
   pub said : entry_in Runs (fields_of account x) ≡ said_as account x
-  unfolding run_in name_of field_at
+  unfolding entry_in post column_of name_of field_at
   said =
       let a = amounts_fit.0 in
       let b = amounts_fit.1 in
@@ -147,7 +148,7 @@ module _ (account : List ℕ) (name : is_account_name account ≡ true) where
       → (rows_text (live_rows account listed) ≡ flat_map (live_record account) listed)
       × (map (entry_in Runs) (live_rows account listed)
       ≡ map (said_as account) (filter is_live listed))
-  unfolding rows_text run_record
+  unfolding rows_text record_told
   written [] fit = (refl, refl)
   written (x ∷ listed) fit =
       let rest = written listed (λ y has. fit y (inr has)) in

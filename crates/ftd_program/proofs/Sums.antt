@@ -1,8 +1,8 @@
 -- The sums of the runs that count.
 use Rattle.std.proofs.Common.{◌≡◌, ◌⊎◌, inl, inr, ℕ, ◌+◌, ◌-◌, ◌*◌, ◌<◌, ◌≤◌, List, [], ◌∷◌, length}
-use Rattle.std.proofs.Common.{map, Option, Some, None, Bool, true, false, cond, refl, sym}
+use Rattle.std.proofs.Common.{map, Option, Some, None, Ok, Bool, true, false, cond, refl, sym}
 use Rattle.std.proofs.Common.{ap, ◌∙◌, arith}
-use Rattle.std.specs.Prelude.{All, ◌&&◌, ◌==◌, if◌then◌else◌, option_and_then, IfSome}
+use Rattle.std.specs.Prelude.{All, ◌&&◌, ◌==◌, if◌then◌else◌, option_and_then, option_map, IfSome}
 use Rattle.std.specs.List.{cons_option, sum_by}
 use Rattle.std.specs.Map.{values_of}
 use Rattle.std.specs.Str.{bytes_eq}
@@ -16,21 +16,29 @@ use Rattle.ftd_days.specs.Calendar.{month_of, year_of, year_start}
 use Rattle.ftd_days.proofs.Months.{early_year, in_month, month_start-mono}
 use Rattle.ftd_rules.specs.declared.DaySum.{DaySum}
 use Rattle.ftd_rules.specs.declared.YearLine.{YearLine}
-use Rattle.ftd_rules.specs.Liability.{cents_of}
+use Rattle.ftd_rules.specs.Liability.{cents_of as sum_cents}
 use Rattle.ftd_rules.specs.Lists.{Has}
 use Rattle.ftd_rules.specs.Years.{LiesInYears, basis_of, year_last}
 use Rattle.ftd_csv.specs.Answers.{RecordsFail, most_bytes}
 use Rattle.ftd_csv.specs.declared.reading.RecordFault.{RecordFault}
 use Rattle.ftd_csv.specs.declared.reading.RecordFault.TheVariants as records
 use Rattle.ftd_program.specs.Faults.{text_fault}
-use Rattle.ftd_csv.specs.Fields.{name_of, numbered_field, run_number_of}
-use Rattle.ftd_days.specs.Spelling.{day_of, cents_of as amount_of}
-use Rattle.ftd_program.specs.Plain.{AtFault, FirstFault, IsCalendar, IsLookedAt, PlainFails, day_sum}
-use Rattle.ftd_program.specs.Plain.{is_taken, most_runs, taken, taken_run}
+use Rattle.ftd_csv.specs.Fields.{amount_of, name_of, run_number_of, spelled, text_in}
+use Rattle.ftd_days.specs.Spelling.{cents_of, day_of}
+use Rattle.ftd_days.specs.declared.cents.Cents.{Cents}
+use Rattle.ftd_machine.specs.declared.requests.Request.TheVariants as request
+use Rattle.ftd_verbs.specs.Asked.{◌>>=◌, post}
+use Rattle.ftd_verbs.specs.Fields.{needed}
+use Rattle.ftd_verbs.specs.declared.field.Field.TheVariants as field
+use Rattle.ftd_program.specs.Plain.{AtFault, FirstFault, IsCalendar, IsLookedAt, PlainFails, Run}
+use Rattle.ftd_program.specs.Plain.{SaidRun, day_sum, enters, is_taken, malformed, most_runs}
+use Rattle.ftd_program.specs.Plain.{run_records, run_said, taken, taken_run}
 use Rattle.ftd_program.specs.declared.fault.PlainFault.{PlainFault}
 use Rattle.ftd_program.specs.declared.fault.PlainFault.TheVariants as fault
 use Rattle.ftd_csv.specs.declared.sheets.Sheet.TheVariants.{Runs}
-use Rattle.ftd_csv.specs.Records.{Run, Said, SaidRun, enters, from, malformed, run_in, run_records}
+use Rattle.ftd_csv.specs.Records.{content_by, entry_in, record_rows, records_of}
+use Rattle.ftd_csv.specs.declared.entries.Content.{Content}
+use Rattle.ftd_csv.specs.declared.entries.Content.TheVariants as content
 use Rattle.ftd_program.specs.Taking.{CalendarFails, IsSmall, TakesAll, StopsAtFault, run_of, runs_of}
 use Rattle.ftd_program.specs.Taking.{sum_of}
 use Rattle.ftd_rules.specs.declared.run.PayRun.{PayRun}
@@ -58,46 +66,46 @@ days_in_year year day late e =
     (omega arith, omega arith)
 
 -- ---- the amounts of a run that a record says are small
-pub record SmallRun (run : Run) : Type 0 where
-  pub fit : run.fit < 100_000_000_000
-  pub ss : run.ss < 100_000_000_000
-  pub medicare : run.medicare < 100_000_000_000
-
 run_same : (a b : Run) → enters a ≡ enters b → a ≡ b
 run_same a b e = cc
 
-as_wide : {A : Type 0} (is : Bool) (said : Said A) (it : A)
-    → (if is then said else malformed 0) ≡ enters it → said ≡ enters it
-as_wide true said it e = e
-as_wide false said it e = cc e
+as_wide : (is : Bool) (said : Content) (run : Run)
+    → run_said (if is then said else content.Malformed 0) ≡ enters run → run_said said ≡ enters run
+as_wide true said run e = e
+as_wide false said run e = cc e
 
 -- the run that six fields say, by what they spell
-abbrev six_said : Option (List ℕ) → Option ℕ → Option ℕ → Option ℕ → Option ℕ → Option ℕ → SaidRun
-six_said name number payday fit ss medicare =
-    from name 1 (λ employer. from number 2 (λ number. from payday 3 (λ payday. from fit 4 (λ fit.
-    from ss 5 (λ ss. from medicare 6 (λ medicare. enters (record {
-      employer = employer;
-      number = number;
-      payday = payday;
-      fit = fit;
-      ss = ss;
-      medicare = medicare;
-    })))))))
+abbrev six_said : Option (List ℕ) → Option ℕ → Option ℕ → Option Cents → Option Cents
+    → Option Cents → Content
+six_said name number payday fit ss medicare = content_by Runs (do
+  account ← needed field.Account name
+  number ← needed field.Run number
+  payday ← needed field.Payday payday
+  fit ← needed field.Fit fit
+  ss ← needed field.Ss ss
+  medicare ← needed field.Medicare medicare
+  Ok (request.Post account number (record {
+    payday = payday;
+    fit = fit;
+    ss = ss;
+    medicare = medicare;
+  })))
 
-abbrev IsSmallAmount : Option ℕ → Type 0
-IsSmallAmount o = IfSome o (λ amount. amount < 100_000_000_000)
+abbrev IsSmallAmount : Option Cents → Type 0
+IsSmallAmount o = IfSome o (λ amount. amount.0 < 100_000_000_000)
 
 amount_small : (o : Option (List ℕ)) → IsSmallAmount (option_and_then amount_of o)
 amount_small None = tt
-amount_small (Some text) = spelled (amount_of text) refl
+amount_small (Some text) = small (cents_of text) refl
   where
-    spelled : (found : Option ℕ) → amount_of text ≡ found → IsSmallAmount found
-    spelled None e = tt
-    spelled (Some amount) e = cents_small text amount e
+    small : (found : Option ℕ) → cents_of text ≡ found
+        → IsSmallAmount (option_map (λ amount. record { 0 = amount }) found)
+    small None e = tt
+    small (Some amount) e = cents_small text amount e
 
-six_small : (name : Option (List ℕ)) (number payday fit ss medicare : Option ℕ) (run : Run)
-    → IsSmallAmount fit → IsSmallAmount ss → IsSmallAmount medicare
-    → six_said name number payday fit ss medicare ≡ enters run → SmallRun run
+six_small : (name : Option (List ℕ)) (number payday : Option ℕ) (fit ss medicare : Option Cents)
+    (run : Run) → IsSmallAmount fit → IsSmallAmount ss → IsSmallAmount medicare
+    → run_said (six_said name number payday fit ss medicare) ≡ enters run → IsSmall run.run
 six_small None number payday fit ss medicare run f s m e = cc e
 six_small (Some x) None payday fit ss medicare run f s m e = cc e
 six_small (Some x) (Some n) None fit ss medicare run f s m e = cc e
@@ -107,17 +115,18 @@ six_small (Some x) (Some n) (Some p) (Some a) (Some b) None run f s m e = cc e
 six_small (Some x) (Some n) (Some p) (Some a) (Some b) (Some c) run f s m e =
     let same = run_same _ run e in rw (← same) (record { fit = f; ss = s; medicare = m })
 
-said_small : (row : List (List ℕ)) (run : Run) → run_in row ≡ enters run → SmallRun run
-unfolding run_in
+said_small : (row : List (List ℕ)) (run : Run) → run_said (entry_in Runs row) ≡ enters run
+    → IsSmall run.run
+unfolding entry_in post
 said_small row run e =
-    let name = option_and_then name_of (numbered_field row 1) in
-    let number = option_and_then run_number_of (numbered_field row 2) in
-    let payday = option_and_then day_of (numbered_field row 3) in
-    let fit = option_and_then amount_of (numbered_field row 4) in
-    let ss = option_and_then amount_of (numbered_field row 5) in
-    let medicare = option_and_then amount_of (numbered_field row 6) in
-    six_small name number payday fit ss medicare run (amount_small (numbered_field row 4))
-    (amount_small (numbered_field row 5)) (amount_small (numbered_field row 6))
+    let name = spelled name_of Runs row field.Account in
+    let number = spelled run_number_of Runs row field.Run in
+    let payday = spelled day_of Runs row field.Payday in
+    let fit = spelled amount_of Runs row field.Fit in
+    let ss = spelled amount_of Runs row field.Ss in
+    let medicare = spelled amount_of Runs row field.Medicare in
+    six_small name number payday fit ss medicare run (amount_small (text_in Runs row field.Fit))
+    (amount_small (text_in Runs row field.Ss)) (amount_small (text_in Runs row field.Medicare))
     (as_wide (length row == 6) (six_said name number payday fit ss medicare) run e)
 
 -- ---- a run that is taken
@@ -154,9 +163,9 @@ taken_said account year (said ∷ records) run h =
     ]
 
 year_is : (account : List ℕ) (year : ℕ) (run : Run) → is_taken account year run ≡ true
-    → year_of run.payday ≡ year
+    → year_of run.run.payday ≡ year
 year_is account year run e =
-    let test = (and_parts (bytes_eq run.employer account) (year_of run.payday == year) e).1 in
+    let test = (and_parts (bytes_eq run.employer account) (year_of run.run.payday == year) e).1 in
     grind (arith, nat_tests)
 
 -- ---- what is kept
@@ -167,55 +176,57 @@ values_has (e ∷ entries) kept (inl same) = (e, inl refl, same)
 values_has (e ∷ entries) kept (inr h) = let (x, there, is) = values_has entries kept h in
     (x, inr there, is)
 
-kept_run : (account : List ℕ) (year : ℕ) (rows : List (List (List ℕ))) (entries : List (ℕ × PayRun))
-    (e : ℕ × PayRun) → TakesAll account year (map run_in rows) entries → Has entries e
-    → SmallRun (run_of account e) × (year_of e.1.payday ≡ year)
-kept_run account year rows entries e all there =
+kept_run : (account : List ℕ) (year : ℕ) (csv : List ℕ) (entries : List (ℕ × PayRun))
+    (e : ℕ × PayRun) → TakesAll account year (run_records csv) entries → Has entries e
+    → IsSmall e.1 × (year_of e.1.payday ≡ year)
+kept_run account year csv entries e all there =
     let run = run_of account e in
-    let mine = has_from_contains (taken account year (map run_in rows)) run
+    let mine = has_from_contains (taken account year (run_records csv)) run
     ((all.same run).0 (contains_from_has (runs_of account entries) run
     (mapped_has (run_of account) entries e there))) in
-    let (said, at, is, taken_it) = taken_said account year (map run_in rows) run mine in
-    let (row, there, says) = has_mapped run_in rows said at in
-    (said_small row run (sym says ∙ is), year_is account year run taken_it)
+    let (said, at, is, taken_it) = taken_said account year (run_records csv) run mine in
+    let (told, there, says) = has_mapped run_said (records_of Runs csv) said at in
+    let (row, stands, tells) = has_mapped (entry_in Runs) (record_rows csv) told there in (
+      said_small row run (sym (says ∙ ap run_said tells) ∙ is),
+      year_is account year run taken_it,
+    )
 
-pub kept_small : (account : List ℕ) (year : ℕ) (rows : List (List (List ℕ)))
-    (entries : List (ℕ × PayRun)) → TakesAll account year (map run_in rows) entries
+pub kept_small : (account : List ℕ) (year : ℕ) (csv : List ℕ)
+    (entries : List (ℕ × PayRun)) → TakesAll account year (run_records csv) entries
     → All IsSmall (values_of entries)
-kept_small account year rows entries all =
+kept_small account year csv entries all =
     all_has IsSmall (values_of entries) (λ kept h.
     let (e, there, is) = values_has entries kept h in
-    let small = (kept_run account year rows entries e all there).0 in
-    rw is (record { fit = small.fit; ss = small.ss; medicare = small.medicare }))
+    rw is (kept_run account year csv entries e all there).0)
 
-kept_year : (account : List ℕ) (year : ℕ) (rows : List (List (List ℕ)))
-    (entries : List (ℕ × PayRun)) → TakesAll account year (map run_in rows) entries
+kept_year : (account : List ℕ) (year : ℕ) (csv : List ℕ)
+    (entries : List (ℕ × PayRun)) → TakesAll account year (run_records csv) entries
     → All (λ (kept : PayRun). year_of kept.payday ≡ year) (values_of entries)
-kept_year account year rows entries all =
+kept_year account year csv entries all =
     all_has (λ (kept : PayRun). year_of kept.payday ≡ year) (values_of entries) (λ kept h.
     let (e, there, is) = values_has entries kept h in
-    ap (λ (k : PayRun). year_of k.payday) is ∙ (kept_run account year rows entries e all there).1)
+    ap (λ (k : PayRun). year_of k.payday) is ∙ (kept_run account year csv entries e all there).1)
 
-pub sums_in_year : (account : List ℕ) (year : ℕ) (rows : List (List (List ℕ)))
+pub sums_in_year : (account : List ℕ) (year : ℕ) (csv : List ℕ)
     (entries : List (ℕ × PayRun)) (sums : List DaySum)
-    → TakesAll account year (map run_in rows) entries → sums ≡ map sum_of (values_of entries)
+    → TakesAll account year (run_records csv) entries → sums ≡ map sum_of (values_of entries)
     → All (λ (sum : DaySum). year_of sum.day ≡ year) sums
-sums_in_year account year rows entries sums all e =
+sums_in_year account year csv entries sums all e =
     rw e (All-map (λ (sum : DaySum). year_of sum.day ≡ year) sum_of (values_of entries)
-    (kept_year account year rows entries all))
+    (kept_year account year csv entries all))
 
 sum_small : (kept : PayRun) → IsSmall kept → (sum_of kept).cents.0 ≤ 299_999_999_997
 sum_small kept small = let a = small.fit in let b = small.ss in let c = small.medicare in
     omega arith
 
-pub sums_small : (account : List ℕ) (year : ℕ) (rows : List (List (List ℕ)))
+pub sums_small : (account : List ℕ) (year : ℕ) (csv : List ℕ)
     (entries : List (ℕ × PayRun)) (sums : List DaySum)
-    → TakesAll account year (map run_in rows) entries → sums ≡ map sum_of (values_of entries)
+    → TakesAll account year (run_records csv) entries → sums ≡ map sum_of (values_of entries)
     → All (λ (sum : DaySum). sum.cents.0 ≤ 299_999_999_997) sums
-sums_small account year rows entries sums all e =
+sums_small account year csv entries sums all e =
     rw e (All-map (λ (sum : DaySum). sum.cents.0 ≤ 299_999_999_997) sum_of (values_of entries)
     (All-weaker IsSmall (λ (kept : PayRun). (sum_of kept).cents.0 ≤ 299_999_999_997) sum_small
-    (values_of entries) (kept_small account year rows entries all)))
+    (values_of entries) (kept_small account year csv entries all)))
 
 pub sums_few : (entries : List (ℕ × PayRun)) (sums : List DaySum) → length entries ≤ most_runs
     → sums ≡ map sum_of (values_of entries) → length sums ≤ most_runs
@@ -237,8 +248,8 @@ lies_in line sums late all =
 
 pub whole_sum : (sums : List DaySum) → length sums ≤ most_runs
     → All (λ (sum : DaySum). sum.cents.0 ≤ 299_999_999_997) sums
-    → sum_by cents_of sums < 6_000_000_000_000_000
-whole_sum sums few small = let bound = sum_by-le cents_of 299_999_999_997 sums small in omega arith
+    → sum_by sum_cents sums < 6_000_000_000_000_000
+whole_sum sums few small = let bound = sum_by-le sum_cents 299_999_999_997 sums small in omega arith
 
 pub only_line : (lines : List YearLine) (year lookback : ℕ) (carried : Bool)
     → map basis_of lines ≡ (year, lookback, carried) ∷ [] → (one : YearLine) × (lines ≡ one ∷ [])

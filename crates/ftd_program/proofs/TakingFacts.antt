@@ -1,6 +1,6 @@
 -- The runs that were taken so far, one record after the other.
 use Rattle.std.proofs.Common.{◌≡◌, ◌≢◌, ◌⊎◌, inl, inr, ℕ, ◌≤◌, ◌+◌, List, [], ◌∷◌, ◌++◌}
-use Rattle.std.proofs.Common.{length, get_or, Some, None, Bool, true}
+use Rattle.std.proofs.Common.{length, map, get_or, Some, None, Bool, true}
 use Rattle.std.proofs.Common.{false, refl, sym, ap, ◌∙◌, arith, append_assoc, length-append}
 use Rattle.std.specs.Prelude.{Contains, ◌↔◌, AllPairs, MatchBool, ◌&&◌, ◌==◌}
 use Rattle.std.specs.List.Sorted.{IsStrictlySortedBy}
@@ -14,11 +14,16 @@ use Rattle.std.proofs.lemmas.Map.Keys.{below_from_sorted}
 use Rattle.std.proofs.lemmas.Slice.Eq.{bytes_eq-Decides}
 use Rattle.ftd_days.specs.Calendar.{year_of}
 use Rattle.ftd_rules.specs.Lists.{Has}
-use Rattle.ftd_csv.specs.Records.{Run, SaidRun, enters, malformed}
-use Rattle.ftd_program.specs.Plain.{AreCounted, AtFault, NoneAtFault, RunFault, is_taken, most_runs}
-use Rattle.ftd_program.specs.Plain.{taken, taken_run}
+use Rattle.ftd_csv.specs.Places.{Advances, Opens, said_at}
+use Rattle.ftd_csv.specs.Records.{records_of}
+use Rattle.ftd_csv.specs.declared.reading.Records.{Records}
+use Rattle.ftd_csv.specs.declared.sheets.Sheet.{Sheet}
+use Rattle.ftd_csv.proofs.Left.{said_first, said_next}
+use Rattle.ftd_program.specs.Plain.{AreCounted, AtFault, NoneAtFault, Run, RunFault, SaidRun}
+use Rattle.ftd_program.specs.Plain.{enters, is_taken, malformed, most_runs, run_said, taken}
+use Rattle.ftd_program.specs.Plain.{taken_run}
 use Rattle.ftd_program.specs.Taking.{HasTaken, RefusesRecord, RefusesRun, StopsAtFault, TakesAll}
-use Rattle.ftd_program.specs.Taking.{TakesRecord, TakesRun, kept_of, run_of, runs_of}
+use Rattle.ftd_program.specs.Taking.{TakesRecord, TakesRun, run_of, runs_left, runs_of}
 use Rattle.ftd_program.specs.declared.fault.PlainFault.{PlainFault}
 use Rattle.ftd_program.specs.declared.fault.PlainFault.TheVariants as fault
 use Rattle.ftd_rules.specs.declared.run.PayRun.{PayRun}
@@ -82,11 +87,11 @@ taken_none account year run e = rw e refl
 employer_is : (account : List ℕ) (year : ℕ) (run : Run) → is_taken account year run ≡ true
     → run.employer ≡ account
 employer_is account year run e = (bytes_eq-Decides run.employer account).0
-    (and_parts (bytes_eq run.employer account) (year_of run.payday == year) e).0
+    (and_parts (bytes_eq run.employer account) (year_of run.run.payday == year) e).0
 
 -- a run of the account is what is kept of it
 run_kept : (account : List ℕ) (run : Run) → run.employer ≡ account
-    → run ≡ run_of account (run.number, kept_of run)
+    → run ≡ run_of account (run.number, run.run)
 run_kept account run e = ap (λ (name : List ℕ). record run { employer = name }) e
 
 -- ---- the runs that count
@@ -130,12 +135,12 @@ Same account entries runs = (run : Run) → Contains (runs_of account entries) r
 
 same_again : (account : List ℕ) (entries : List (ℕ × PayRun)) (runs : List Run) (run : Run)
     → Same account entries runs → run.employer ≡ account
-    → lookup (is_at (nat_cmp run.number)) entries ≡ Some (kept_of run)
+    → lookup (is_at (nat_cmp run.number)) entries ≡ Some run.run
     → Same account entries (runs ++ run ∷ [])
 same_again account entries runs run same mine found other =
     let here : Has (runs_of account entries) run = rw (run_kept account run mine)
-    (mapped_has (run_of account) entries (run.number, kept_of run)
-    (lookup_has run.number (kept_of run) entries found)) in (
+    (mapped_has (run_of account) entries (run.number, run.run)
+    (lookup_has run.number run.run entries found)) in (
       (λ c. contains_from_has (runs ++ run ∷ []) other
           (has_before runs run other (has_from_contains runs other ((same other).0 c)))),
       (λ c. elim (has_last runs run other (has_from_contains (runs ++ run ∷ []) other c)) [
@@ -147,10 +152,10 @@ same_again account entries runs run same mine found other =
 same_new : (account : List ℕ) (entries : List (ℕ × PayRun)) (runs : List Run) (run : Run)
     → Same account entries runs → run.employer ≡ account
     → lookup (is_at (nat_cmp run.number)) entries ≡ None
-    → Same account (insert_entry nat_cmp entries run.number (kept_of run)) (runs ++ run ∷ [])
+    → Same account (insert_entry nat_cmp entries run.number run.run) (runs ++ run ∷ [])
 same_new account entries runs run same mine none other =
-    let adds = insert_adds run.number (kept_of run) entries none in
-    let new = insert_entry nat_cmp entries run.number (kept_of run) in
+    let adds = insert_adds run.number run.run entries none in
+    let new = insert_entry nat_cmp entries run.number run.run in
     let is_run = run_kept account run mine in (
       (λ c.
           let (e, there, is) = has_mapped (run_of account) new other
@@ -172,8 +177,8 @@ same_new account entries runs run same mine none other =
             contains_from_has (runs_of account new) other
             (rw is (mapped_has (run_of account) new e (adds.kept e there))))
         | inr it ↦ rw (it, is_run) (contains_from_has (runs_of account new)
-            (run_of account (run.number, kept_of run))
-            (mapped_has (run_of account) new (run.number, kept_of run) adds.there))
+            (run_of account (run.number, run.run))
+            (mapped_has (run_of account) new (run.number, run.run) adds.there))
       ]),
     )
 
@@ -222,15 +227,15 @@ counted_no_longer account entries runs counted same are =
 run_at_no_fault : (account : List ℕ) (year : ℕ) (entries new : List (ℕ × PayRun)) (runs : List Run)
     (run : Run) → IsStrictlySortedBy nat_cmp (keys_of entries) → Same account entries runs
     → run.employer ≡ account
-    → TakesRun entries run new → (f : PlainFault) → RunFault runs run f → ⊥
+    → TakesRun entries run.number run.run new → (f : PlainFault) → RunFault runs run f → ⊥
 run_at_no_fault account year entries new runs run sorted same mine (inl (found, keeps))
     (fault.RunDiffers number) (n, (other, there, same_number, differs)) =
-    differs (one_entry account entries runs run.number (kept_of run) sorted same found other there
+    differs (one_entry account entries runs run.number run.run sorted same found other there
     same_number ∙ sym (run_kept account run mine))
 run_at_no_fault account year entries new runs run sorted same mine (inl (found, keeps))
     fault.TooManyRuns (apart, (counted, are, most)) =
-    apart (run_of account (run.number, kept_of run)) (entry_there account entries runs run.number
-    (kept_of run) same found) refl
+    apart (run_of account (run.number, run.run)) (entry_there account entries runs run.number
+    run.run same found) refl
 run_at_no_fault account year entries new runs run sorted same mine (inr (none, few, adds))
     (fault.RunDiffers number) (n, (other, there, same_number, differs)) =
     other_number account entries runs run.number same none other there same_number
@@ -248,8 +253,8 @@ run_at_no_fault account year entries new runs run sorted same mine takes fault.M
 run_at_fault : (account : List ℕ) (year : ℕ) (before : List SaidRun) (entries : List (ℕ × PayRun))
     (run : Run) → IsStrictlySortedBy nat_cmp (keys_of entries)
     → Same account entries (taken account year before)
-    → run.employer ≡ account → (f : PlainFault) → RefusesRun entries run f → (f ≡ fault.Memory)
-    ⊎ RunFault (taken account year before) run f
+    → run.employer ≡ account → (f : PlainFault) → RefusesRun entries run.number run.run f
+    → (f ≡ fault.Memory) ⊎ RunFault (taken account year before) run f
 run_at_fault account year before entries run sorted same mine (fault.RunDiffers number)
     (n, kept, found, differs) =
     inr (
@@ -258,7 +263,7 @@ run_at_fault account year before entries run sorted same mine (fault.RunDiffers 
         run_of account (run.number, kept),
         entry_there account entries (taken account year before) run.number kept same found,
         refl,
-        (λ e. differs (ap (λ (r : Run). kept_of r) e)),
+        (λ e. differs (ap (λ (r : Run). r.run) e)),
       ),
     )
 run_at_fault account year before entries run sorted same mine fault.TooManyRuns (none, most) =
@@ -278,6 +283,14 @@ run_at_fault account year before entries run sorted same mine (fault.Malformed n
 run_at_fault account year before entries run sorted same mine fault.BadCalendar h = absurd h
 
 -- ---- the steps of the loop
+pub runs_next : (old new : Records) → Advances old new
+    → runs_left old ≡ run_said (said_at new) ∷ runs_left new
+runs_next old new goes = ap (map run_said) (said_next old new goes)
+
+pub runs_first : (kind : Sheet) (text : List ℕ) (records : Records) → Opens kind text records
+    → runs_left records ≡ map run_said (records_of kind text)
+runs_first kind text records opens = ap (map run_said) (said_first kind text records opens)
+
 pub taken_first : (account : List ℕ) (year : ℕ) (records : List SaidRun)
     → HasTaken account year records records 2 []
 taken_first account year records = record {
@@ -325,15 +338,15 @@ taken_stops account year records (enters run) left number entries f sorted h ref
     ]
 
 few_more : (entries new : List (ℕ × PayRun)) (run : Run) → length entries ≤ most_runs
-    → TakesRun entries run new → length new ≤ most_runs
+    → TakesRun entries run.number run.run new → length new ≤ most_runs
 few_more entries new run few (inl (found, keeps)) = let long = ap length keeps in omega arith
 few_more entries new run few (inr (none, fewer, adds)) =
     let long = ap length adds in
-    let more = (insert_adds run.number (kept_of run) entries none).long in
+    let more = (insert_adds run.number run.run entries none).long in
     omega arith
 
 same_more : (account : List ℕ) (entries new : List (ℕ × PayRun)) (runs : List Run) (run : Run)
-    → Same account entries runs → run.employer ≡ account → TakesRun entries run new
+    → Same account entries runs → run.employer ≡ account → TakesRun entries run.number run.run new
     → Same account new (runs ++ run ∷ [])
 same_more account entries new runs run same mine (inl (found, keeps)) =
     rw keeps (same_again account entries runs run same mine found)
@@ -359,8 +372,9 @@ taken_next account year records (enters run) left number entries new sorted h ta
     long : number + 1 ≡ 2 + length (h.before ++ enters run ∷ [])
     long = let count = h.count in let one = length-append h.before (enters run ∷ []) in omega arith
 
-    go : (b : Bool) → is_taken account year run ≡ b → MatchBool b (TakesRun entries run new)
-        (new ≡ entries) → HasTaken account year records left (number + 1) new
+    go : (b : Bool) → is_taken account year run ≡ b
+        → MatchBool b (TakesRun entries run.number run.run new) (new ≡ entries)
+        → HasTaken account year records left (number + 1) new
     go true mine takes =
         let employer = employer_is account year run mine in
         let runs : taken account year (h.before ++ enters run ∷ []) ≡ taken account year h.before

@@ -5,7 +5,7 @@ use Rattle.ftd_csv.specs.Places.{Opens, records_left}
 use Rattle.ftd_csv.specs.declared.reading.Records.{Records}
 use Rattle.ftd_csv.specs.declared.reading.RecordFault.{RecordFault}
 use Rattle.ftd_csv.specs.declared.reading.RecordFault.TheVariants as text_fault
-use Rattle.ftd_csv.specs.Records.{SaidEntry}
+use Rattle.ftd_csv.specs.declared.entries.Content.{Content}
 use Rattle.ftd_csv.specs.declared.sheets.Sheet.{Sheet}
 use Rattle.ftd_csv.proofs.Left.{records_first}
 use Rattle.ftd_machine.specs.Checks.{Answer}
@@ -41,7 +41,7 @@ fault_cause (Err refusal.Memory) why is = inl (cc)
 fault_cause (Err refusal.Store) why is = inr (cc)
 fault_cause (Err other) why is = search rules
 
-stop_cause : (at : ℕ × SaidEntry) (why : StopCause) (last : List Outcome) → IsStop at why last
+stop_cause : (at : ℕ × Content) (why : StopCause) (last : List Outcome) → IsStop at why last
     → (why ≡ cause.Memory) ⊎ (why ≡ cause.Store)
 stop_cause at why last (inl none) = inl none.0
 stop_cause at why last (inr (posted number it answer, one, of, fault)) =
@@ -58,7 +58,7 @@ module _ (kind : Sheet) (text : List ℕ) (records : Records) (opens : Opens kin
     short = opens.short;
     header = opens.header;
     outcomes = posts.outcomes;
-    are = subst (λ (rs : List (ℕ × SaidEntry)). AreOutcomes rs posts.outcomes) all posts.are;
+    are = subst (λ (rs : List (ℕ × Content)). AreOutcomes rs posts.outcomes) all posts.are;
     summary_is = summary_of p q posts.outcomes none posts.counts;
     asks = posts.asks;
   }
@@ -71,7 +71,7 @@ module _ (kind : Sheet) (text : List ℕ) (records : Records) (opens : Opens kin
         short = opens.short;
         header = opens.header;
         stops = stops_told failed a b (numbered_in kind text) p q why none
-            (subst (λ (rs : List (ℕ × SaidEntry)). StopsWithin failed a b rs
+            (subst (λ (rs : List (ℕ × Content)). StopsWithin failed a b rs
             (λ outcomes. Counts p outcomes q) why) all stops);
       } in
       elim (stop_cause stops.at why stops.last stops.stop) [

@@ -3,7 +3,7 @@ use Rattle.std.proofs.Common.{◌≡◌, ◌∙◌, ◌++◌, [], sym, subst, ap
 use Rattle.std.proofs.Common.{arith}
 use Rattle.std.proofs.lemmas.List.{append-nil}
 use Rattle.ftd_csv.specs.Places.{Opens, records_left, rows_after}
-use Rattle.ftd_csv.specs.Records.{SaidEntry}
+use Rattle.ftd_csv.specs.declared.entries.Content.{Content}
 use Rattle.ftd_csv.specs.declared.reading.Records.{Records}
 use Rattle.ftd_csv.specs.declared.sheets.Sheet.{Sheet}
 use Rattle.ftd_csv.proofs.Left.{records_first}
@@ -28,17 +28,17 @@ all_taken old new list count takes whole =
     let long = length_left new in
     let none : records_left new ≡ [] = nothing (records_left new) (omega arith) in
     sym (append-nil takes.taken)
-    ∙ ap (λ (rs : List (ℕ × SaidEntry)). takes.taken ++ rs) (sym none) ∙ sym takes.split
+    ∙ ap (λ (rs : List (ℕ × Content)). takes.taken ++ rs) (sym none) ∙ sym takes.split
 
 -- all records of a text would be posted so
 pub would_import : (a b : Held) (kind : Sheet) (text : List ℕ) (records : Records)
-    (rs : List (ℕ × SaidEntry)) (p q : Summary) → Opens kind text records
+    (rs : List (ℕ × Content)) (p q : Summary) → Opens kind text records
     → rs ≡ records_left records → IsNothing p → WouldPost a b rs p q → WouldImport a b kind text q
 would_import a b kind text records rs p q opens all none would = record {
   short = opens.short;
   header = opens.header;
   outcomes = would.outcomes;
-  are = subst (λ (xs : List (ℕ × SaidEntry)). AreOutcomes xs would.outcomes)
+  are = subst (λ (xs : List (ℕ × Content)). AreOutcomes xs would.outcomes)
       (all ∙ records_first kind text records opens) would.are;
   summary_is = summary_of p q would.outcomes none would.counts;
   would = would.would;

@@ -1,9 +1,10 @@
 -- How the records of an import change the obligations of accounts.
 use Rattle.std.specs.Prelude.{ℕ, List, Option, None, Some, Ok, Err}
-use Rattle.ftd_csv.specs.Records.{Entry, a_payment, a_run, a_total, an_account}
 use Rattle.ftd_machine.specs.Checks.{Answer}
 use Rattle.ftd_machine.specs.declared.replies.Difference.{Difference}
 use Rattle.ftd_machine.specs.declared.replies.Reply.TheVariants as reply
+use Rattle.ftd_machine.specs.declared.requests.Request.{Request}
+use Rattle.ftd_machine.specs.declared.requests.Request.TheVariants as request
 use Rattle.ftd_program.specs.declared.changes.AccountChange.{AccountChange}
 
 -- the account, the obligations that were removed and those that were added
@@ -18,9 +19,7 @@ change_by account (Ok reply.Already) = None
 change_by account (Ok (reply.Told facts)) = None
 change_by account (Err refused) = None
 
--- how the entry of a record that was answered so changed the obligations of its account
-abbrev pub change_of : Entry → Answer → Option AccountChange
-change_of (a_run run) answer = change_by run.employer answer
-change_of (an_account account) answer = None
-change_of (a_total total) answer = None
-change_of (a_payment payment) answer = None
+-- how the post of a record that was answered so changed the obligations of its account
+abbrev pub change_of : Request → Answer → Option AccountChange
+change_of (request.Post account number run) answer = change_by account answer
+change_of other answer = None

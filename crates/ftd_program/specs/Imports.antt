@@ -4,7 +4,8 @@ use Rattle.std.specs.Prelude.{List, Some, Err, length, map}
 use Rattle.std.specs.List.{filter_map}
 use Rattle.sqlite.specs.Tree.{Trees}
 use Rattle.ftd_csv.specs.Answers.{most_bytes}
-use Rattle.ftd_csv.specs.Records.{HasHeader, SaidEntry, numbered_from, records_of}
+use Rattle.ftd_csv.specs.Records.{HasHeader, numbered_from, records_of}
+use Rattle.ftd_csv.specs.declared.entries.Content.{Content}
 use Rattle.ftd_csv.specs.declared.sheets.Sheet.{Sheet}
 use Rattle.ftd_machine.specs.State.{State}
 use Rattle.ftd_machine.specs.Checks.{Answer}
@@ -28,12 +29,12 @@ Asks failed old new outcomes =
     HandlesAll failed old new (filter_map request_in outcomes) (filter_map answer_in outcomes)
 
 -- these are outcomes of the records, none of which is a fault
-pub record AreOutcomes (records : List (ℕ × SaidEntry)) (outcomes : List Outcome) : Type 0 where
+pub record AreOutcomes (records : List (ℕ × Content)) (outcomes : List Outcome) : Type 0 where
   pub all : map record_in outcomes ≡ records
   pub no_fault : filter_map fault_in outcomes ≡ []
 
 -- the records were posted, each in its place, and counted; no commit failed
-pub record Posts (old new : Held) (records : List (ℕ × SaidEntry))
+pub record Posts (old new : Held) (records : List (ℕ × Content))
     (before after : Summary) : Type 0 where
   pub outcomes : List Outcome
   pub are : AreOutcomes records outcomes
@@ -42,25 +43,25 @@ pub record Posts (old new : Held) (records : List (ℕ × SaidEntry))
 
 -- this became of a record at which an import stopped: there was no memory to post it or to note it,
 -- or its post was answered by a fault
-abbrev pub IsStop : ℕ × SaidEntry → StopCause → List Outcome → Type 0
+abbrev pub IsStop : ℕ × Content → StopCause → List Outcome → Type 0
 IsStop at why last =
     ((why ≡ cause.Memory) × (last ≡ []))
     ⊎ ((outcome : Outcome) × (last ≡ outcome ∷ []) × (record_in outcome ≡ at)
     × (fault_in outcome ≡ Some why))
 
 -- an import stopped at this record
-pub record StopsAt (failed : Type 0) (old new : Held) (at : ℕ × SaidEntry) (why : StopCause)
+pub record StopsAt (failed : Type 0) (old new : Held) (at : ℕ × Content) (why : StopCause)
     : Type 0 where
   pub last : List Outcome
   pub stop : IsStop at why last
   pub asks : Asks failed old new last
 
 -- an import stopped at one of the records: those before it were posted and counted
-pub record StopsIn (failed : Type 0) (old new : Held) (records : List (ℕ × SaidEntry))
+pub record StopsIn (failed : Type 0) (old new : Held) (records : List (ℕ × Content))
     (before after : Summary) (why : StopCause) : Type 0 where
-  pub passed : List (ℕ × SaidEntry)
-  pub at : ℕ × SaidEntry
-  pub others : List (ℕ × SaidEntry)
+  pub passed : List (ℕ × Content)
+  pub at : ℕ × Content
+  pub others : List (ℕ × Content)
   pub split : records ≡ passed ++ at ∷ others
   pub outcomes : List Outcome
   pub are : AreOutcomes passed outcomes
@@ -97,11 +98,11 @@ HandlesOrLeaves failed old new requests answers list =
 -- The commit of a list of posts failed, and the list was asked for again, one post after the other,
 -- up to some record of it. So the desk answered the posts up to there one after the other, and a
 -- crash may also find the state after all of the list.
-pub record AsksAgain (failed : Type 0) (old new : Held) (records passed : List (ℕ × SaidEntry))
+pub record AsksAgain (failed : Type 0) (old new : Held) (records passed : List (ℕ × Content))
     (outcomes : List Outcome) : Type 0 where
-  pub before : List (ℕ × SaidEntry)
-  pub list : List (ℕ × SaidEntry)
-  pub others : List (ℕ × SaidEntry)
+  pub before : List (ℕ × Content)
+  pub list : List (ℕ × Content)
+  pub others : List (ℕ × Content)
   pub split : records ≡ (before ++ list) ++ others
   pub short : length list ≤ most_together
   pub begins : length before ≤ length passed
@@ -111,11 +112,11 @@ pub record AsksAgain (failed : Type 0) (old new : Held) (records passed : List (
 
 -- an import stopped at one of the records: those before it were posted, each in its place, and told
 -- so; the desk was asked for them one after the other, or, where a commit failed, in lists
-pub record StopsWithin (failed : Type 0) (old new : Held) (records : List (ℕ × SaidEntry))
+pub record StopsWithin (failed : Type 0) (old new : Held) (records : List (ℕ × Content))
     (IsTold : List Outcome → Type 0) (why : StopCause) : Type 0 where
-  pub passed : List (ℕ × SaidEntry)
-  pub at : ℕ × SaidEntry
-  pub others : List (ℕ × SaidEntry)
+  pub passed : List (ℕ × Content)
+  pub at : ℕ × Content
+  pub others : List (ℕ × Content)
   pub split : records ≡ passed ++ at ∷ others
   pub outcomes : List Outcome
   pub are : AreOutcomes passed outcomes
@@ -126,7 +127,7 @@ pub record StopsWithin (failed : Type 0) (old new : Held) (records : List (ℕ �
       ⊎ (failed × AsksAgain failed old new records passed (outcomes ++ last))
 
 -- the records of the text, each with its number
-abbrev pub numbered_in : Sheet → List ℕ → List (ℕ × SaidEntry)
+abbrev pub numbered_in : Sheet → List ℕ → List (ℕ × Content)
 numbered_in kind text = numbered_from 2 (records_of kind text)
 
 -- the entries of the text were posted, each in its place, and this is the summary of its records

@@ -2,16 +2,14 @@
 use Rattle.std.specs.Prelude.{◌≡◌, ◌+◌, ◌++◌, ℕ, Bool, true, false, List, [], length, map, Option}
 use Rattle.std.specs.Prelude.{None, Some, Ok, Err}
 use Rattle.std.specs.List.{filter, filter_map}
-use Rattle.ftd_csv.specs.Records.{Entry, SaidEntry, a_payment, a_run, a_total, an_account, enters}
-use Rattle.ftd_csv.specs.Records.{malformed}
+use Rattle.ftd_csv.specs.declared.entries.Content.{Content}
+use Rattle.ftd_csv.specs.declared.entries.Content.TheVariants as content
 use Rattle.ftd_csv.specs.declared.reading.RecordFault.{RecordFault}
 use Rattle.ftd_csv.specs.declared.reading.RecordFault.TheVariants as text_fault
 use Rattle.ftd_machine.specs.Checks.{Answer}
 use Rattle.ftd_machine.specs.declared.replies.Reply.TheVariants as reply
 use Rattle.ftd_machine.specs.declared.replies.Refusal.TheVariants as refusal
 use Rattle.ftd_machine.specs.declared.requests.Request.{Request}
-use Rattle.ftd_machine.specs.declared.requests.Request.TheVariants as request
-use Rattle.ftd_machine.specs.declared.requests.Entry.TheVariants as entry
 use Rattle.ftd_program.specs.declared.changes.AccountChange.{AccountChange}
 use Rattle.ftd_program.specs.declared.summary.Finding.TheVariants.{Malformed, Refused}
 use Rattle.ftd_program.specs.declared.summary.Note.{Note}
@@ -20,41 +18,31 @@ use Rattle.ftd_program.specs.declared.summary.StopCause.TheVariants as cause
 use Rattle.ftd_program.specs.declared.summary.Summary.{Summary}
 use Rattle.ftd_program.specs.Changed.{change_of}
 use Rattle.ftd_program.specs.Collections.{Collects, Follow}
-use Rattle.ftd_program.specs.Refused.{account_of, in_cents, pay_run_of, payment_of, refused_by}
+use Rattle.ftd_program.specs.Refused.{refused_by}
 use Rattle.ftd_program.specs.declared.refusals.RefusedRecord.{RefusedRecord}
 
--- the request by which an entry is posted
-abbrev pub post_of : Entry → Request
-post_of (a_run run) = request.Post run.employer run.number (pay_run_of run)
-post_of (an_account account) =
-    request.Enter (entry.Account account.employer (account_of account))
-post_of (a_total total) =
-    request.Enter (entry.Total total.employer total.period (in_cents total.amount))
-post_of (a_payment payment) =
-    request.Pay payment.employer payment.number (payment_of payment)
-
--- that of a record
-abbrev pub post_in : ℕ × SaidEntry → Option Request
-post_in (number, enters it) = Some (post_of it)
-post_in (number, malformed field) = None
+-- the post of a record, which is what it enters
+abbrev pub post_in : ℕ × Content → Option Request
+post_in (number, content.Entry it) = Some it
+post_in (number, content.Malformed field) = None
 
 -- the posts of records
-abbrev pub posts_of : List (ℕ × SaidEntry) → List Request
+abbrev pub posts_of : List (ℕ × Content) → List Request
 posts_of records = filter_map post_in records
 
 -- what became of the record of this number: its entry was posted and answered so, or it was left
 -- out, malformed at this field
 pub data Outcome : Type 0 where
-  posted : ℕ → Entry → Answer → Outcome
+  posted : ℕ → Request → Answer → Outcome
   skipped : ℕ → ℕ → Outcome
 
-abbrev pub record_in : Outcome → ℕ × SaidEntry
-record_in (posted number it answer) = (number, enters it)
-record_in (skipped number field) = (number, malformed field)
+abbrev pub record_in : Outcome → ℕ × Content
+record_in (posted number it answer) = (number, content.Entry it)
+record_in (skipped number field) = (number, content.Malformed field)
 
 -- what was asked of the desk, and what it answered
 abbrev pub request_in : Outcome → Option Request
-request_in (posted number it answer) = Some (post_of it)
+request_in (posted number it answer) = Some it
 request_in (skipped number field) = None
 
 abbrev pub answer_in : Outcome → Option Answer
@@ -169,7 +157,7 @@ pub record Counts (before : Summary) (outcomes : List Outcome) (after : Summary)
   pub changes_are : Follow before.changes (filter_map change_in outcomes) after.changes
 
 -- a summary after some more records, whose posts were answered so
-pub record CountsAnswers (before : Summary) (records : List (ℕ × SaidEntry)) (answers : List Answer)
+pub record CountsAnswers (before : Summary) (records : List (ℕ × Content)) (answers : List Answer)
     (after : Summary) : Type 0 where
   pub outcomes : List Outcome
   pub all : map record_in outcomes ≡ records

@@ -7,6 +7,7 @@ use Rattle.std.specs.List.Sorted.{IsStrictlyIncreasing}
 use Rattle.std.specs.Str.{bytes_eq}
 use Rattle.ftd_days.specs.Calendar.{year_of}
 use Rattle.ftd_rules.specs.declared.DaySum.{DaySum}
+use Rattle.ftd_rules.specs.declared.run.PayRun.{PayRun}
 use Rattle.ftd_rules.specs.declared.Obligation.{Obligation}
 use Rattle.ftd_rules.specs.declared.Form.TheVariants.{F941}
 use Rattle.ftd_rules.specs.declared.YearLine.{YearLine}
@@ -16,7 +17,10 @@ use Rattle.ftd_rules.specs.Obligations.{AreObligations}
 use Rattle.ftd_rules.specs.Text.{obligation_text}
 use Rattle.ftd_csv.specs.Answers.{most_bytes}
 use Rattle.ftd_csv.specs.declared.sheets.Sheet.TheVariants.{Runs}
-use Rattle.ftd_csv.specs.Records.{Run, SaidRun, enters, malformed, HasHeader, run_records}
+use Rattle.ftd_csv.specs.Records.{HasHeader, records_of}
+use Rattle.ftd_csv.specs.declared.entries.Content.{Content}
+use Rattle.ftd_csv.specs.declared.entries.Content.TheVariants as content
+use Rattle.ftd_machine.specs.declared.requests.Request.TheVariants as request
 use Rattle.ftd_program.specs.declared.fault.PlainFault.{PlainFault}
 use Rattle.ftd_program.specs.declared.fault.PlainFault.TheVariants as fault
 
@@ -32,9 +36,31 @@ pub record IsCalendar (year : ℕ) (holidays : List ℕ) : Type 0 where
   pub few : count_by (λ day. year_of day == year) holidays ≤ 60
   pub few_next : count_by (λ day. year_of day == year + 1) holidays ≤ 60
 
+-- a pay run of an employer: the name of its account, its number, its payday and its amounts
+pub record Run : Type 0 where
+  pub employer : List ℕ
+  pub number : ℕ
+  pub run : PayRun
+
+-- what a record says of a pay run: the run, or its field that is bad. One that enters anything else
+-- is no record of pay runs.
+pub data SaidRun : Type 0 where
+  enters : Run → SaidRun
+  malformed : ℕ → SaidRun
+
+abbrev pub run_said : Content → SaidRun
+run_said (content.Entry (request.Post employer number run)) =
+    enters (record { employer = employer; number = number; run = run })
+run_said (content.Entry other) = malformed 0
+run_said (content.Malformed field) = malformed field
+
+-- what the records of a text say of pay runs
+abbrev pub run_records : List ℕ → List SaidRun
+run_records text = map run_said (records_of Runs text)
+
 -- the runs that the records say of the account with a payday in the year
 abbrev pub is_taken : List ℕ → ℕ → Run → Bool
-is_taken account year run = bytes_eq run.employer account && (year_of run.payday == year)
+is_taken account year run = bytes_eq run.employer account && (year_of run.run.payday == year)
 
 abbrev pub taken_run : List ℕ → ℕ → SaidRun → Option Run
 taken_run account year (enters run) = if is_taken account year run then Some run else None
@@ -91,7 +117,10 @@ pub record FirstFault (account : List ℕ) (year : ℕ) (records : List SaidRun)
 -- security and of Medicare tax
 abbrev pub day_sum : Run → DaySum
 day_sum run =
-    record { day = run.payday; cents = record { 0 = run_liability run.fit run.ss run.medicare } }
+    record {
+      day = run.run.payday;
+      cents = record { 0 = run_liability run.run.fit.0 run.run.ss.0 run.run.medicare.0 };
+    }
 
 -- the line of an obligation
 abbrev pub line_text : Obligation → List ℕ

@@ -8,61 +8,52 @@ use Rattle.std.specs.Ordering.{nat_cmp}
 use Rattle.ftd_rules.specs.declared.DaySum.{DaySum}
 use Rattle.ftd_rules.specs.declared.run.PayRun.{PayRun}
 use Rattle.ftd_rules.specs.Liability.{run_liability}
-use Rattle.ftd_csv.specs.Records.{Run, SaidRun, enters, malformed}
-use Rattle.ftd_program.specs.Plain.{FirstFault, IsCalendar, NoneAtFault, is_taken, most_runs, taken}
+use Rattle.ftd_csv.specs.Places.{said_left}
+use Rattle.ftd_csv.specs.declared.reading.Records.{Records}
+use Rattle.ftd_program.specs.Plain.{FirstFault, IsCalendar, NoneAtFault, Run, SaidRun, enters}
+use Rattle.ftd_program.specs.Plain.{is_taken, malformed, most_runs, run_said, taken}
 use Rattle.ftd_program.specs.declared.fault.PlainFault.{PlainFault}
 use Rattle.ftd_program.specs.declared.fault.PlainFault.TheVariants as fault
 
--- what is kept of a run at its number
-abbrev pub kept_of : Run → PayRun
-kept_of run = record {
-  payday = run.payday;
-  fit = record { 0 = run.fit };
-  ss = record { 0 = run.ss };
-  medicare = record { 0 = run.medicare };
-}
+-- what the records that are left say of pay runs
+abbrev pub runs_left : Records → List SaidRun
+runs_left records = map run_said (said_left records)
 
 -- the runs of an account that are kept
 abbrev pub run_of : List ℕ → ℕ × PayRun → Run
-run_of account entry = record {
-  employer = account;
-  number = entry.0;
-  payday = entry.1.payday;
-  fit = entry.1.fit.0;
-  ss = entry.1.ss.0;
-  medicare = entry.1.medicare.0;
-}
+run_of account entry = record { employer = account; number = entry.0; run = entry.1 }
 
 abbrev pub runs_of : List ℕ → List (ℕ × PayRun) → List Run
 runs_of account entries = map (run_of account) entries
 
-abbrev pub TakesRun : List (ℕ × PayRun) → Run → List (ℕ × PayRun) → Type 0
-TakesRun old run new =
-    ((lookup (is_at (nat_cmp run.number)) old ≡ Some (kept_of run)) × (new ≡ old))
-    ⊎ ((lookup (is_at (nat_cmp run.number)) old ≡ None) × (length old < most_runs)
-    × (new ≡ insert_entry nat_cmp old run.number (kept_of run)))
+abbrev pub TakesRun : List (ℕ × PayRun) → ℕ → PayRun → List (ℕ × PayRun) → Type 0
+TakesRun old number run new =
+    ((lookup (is_at (nat_cmp number)) old ≡ Some run) × (new ≡ old))
+    ⊎ ((lookup (is_at (nat_cmp number)) old ≡ None) × (length old < most_runs)
+    × (new ≡ insert_entry nat_cmp old number run))
 
-abbrev pub RefusesRun : List (ℕ × PayRun) → Run → PlainFault → Type 0
-RefusesRun old run (fault.RunDiffers number) =
-    (number ≡ run.number) × (kept : PayRun) × (lookup (is_at (nat_cmp run.number)) old ≡ Some kept)
-    × (kept ≢ kept_of run)
-RefusesRun old run fault.TooManyRuns =
-    (lookup (is_at (nat_cmp run.number)) old ≡ None) × (length old ≡ most_runs)
-RefusesRun old run fault.Memory = ⊤
-RefusesRun old run fault.BadHeader = ⊥
-RefusesRun old run fault.TooLong = ⊥
-RefusesRun old run (fault.Malformed number field) = ⊥
-RefusesRun old run fault.BadCalendar = ⊥
+abbrev pub RefusesRun : List (ℕ × PayRun) → ℕ → PayRun → PlainFault → Type 0
+RefusesRun old number run (fault.RunDiffers other) =
+    (other ≡ number) × (kept : PayRun) × (lookup (is_at (nat_cmp number)) old ≡ Some kept)
+    × (kept ≢ run)
+RefusesRun old number run fault.TooManyRuns =
+    (lookup (is_at (nat_cmp number)) old ≡ None) × (length old ≡ most_runs)
+RefusesRun old number run fault.Memory = ⊤
+RefusesRun old number run fault.BadHeader = ⊥
+RefusesRun old number run fault.TooLong = ⊥
+RefusesRun old number run (fault.Malformed record_number field) = ⊥
+RefusesRun old number run fault.BadCalendar = ⊥
 
 abbrev pub TakesRecord : List ℕ → ℕ → List (ℕ × PayRun) → SaidRun → List (ℕ × PayRun) → Type 0
 TakesRecord account year old (malformed place) new = ⊥
 TakesRecord account year old (enters run) new =
-    MatchBool (is_taken account year run) (TakesRun old run new) (new ≡ old)
+    MatchBool (is_taken account year run) (TakesRun old run.number run.run new)
+    (new ≡ old)
 
 abbrev pub RefusesRecord : List ℕ → ℕ → ℕ → List (ℕ × PayRun) → SaidRun → PlainFault → Type 0
 RefusesRecord account year number old (malformed place) f = f ≡ fault.Malformed number place
 RefusesRecord account year number old (enters run) f =
-    (is_taken account year run ≡ true) × RefusesRun old run f
+    (is_taken account year run ≡ true) × RefusesRun old run.number run.run f
 
 -- the records that were read, the runs taken of them, and those that are left
 pub record HasTaken (account : List ℕ) (year : ℕ) (records left : List SaidRun) (number : ℕ)

@@ -3,7 +3,8 @@ use Rattle.std.specs.Prelude.{◌<◌, ◌≤◌, ℕ, List, length, ⊤}
 use Rattle.std.specs.List.{filter_map}
 use Rattle.sqlite.specs.State.{HasCleanDisk}
 use Rattle.ftd_csv.specs.Answers.{most_bytes}
-use Rattle.ftd_csv.specs.Records.{HasHeader, SaidEntry}
+use Rattle.ftd_csv.specs.Records.{HasHeader}
+use Rattle.ftd_csv.specs.declared.entries.Content.{Content}
 use Rattle.ftd_csv.specs.declared.sheets.Sheet.{Sheet}
 use Rattle.ftd_machine.specs.State.{State}
 use Rattle.ftd_desk.specs.Desks.{Held, Keeps}
@@ -23,7 +24,7 @@ WouldAnswer old new outcomes =
     end
 
 -- the records would be posted so, each in its place, and they are counted
-pub record WouldPost (old new : Held) (records : List (ℕ × SaidEntry)) (before after : Summary)
+pub record WouldPost (old new : Held) (records : List (ℕ × Content)) (before after : Summary)
     : Type 0 where
   pub outcomes : List Outcome
   pub are : AreOutcomes records outcomes

@@ -19,7 +19,6 @@ mod noting;
 mod numbering;
 mod performing;
 mod posting;
-mod posts;
 mod printing;
 mod progress;
 mod reading;

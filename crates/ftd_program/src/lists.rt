@@ -4,7 +4,7 @@ ghost use Rattle.std.specs.Prelude.{◌≡◌, ◌<◌, ◌≤◌, ◌+◌, ℕ,
 ghost use Rattle.std.specs.Prelude.{map, vec_len, vec_capacity};
 ghost use Rattle.std.specs.List.{filter};
 ghost use Rattle.ftd_csv.specs.Places.{CanAdvance, records_left, rows_after};
-ghost use Rattle.ftd_csv.specs.Records.{SaidEntry};
+ghost use Rattle.ftd_csv.specs.declared.entries.Content.{Content};
 ghost use Rattle.ftd_desk.specs.Desks.{IsStopped, held};
 ghost use Rattle.ftd_program.specs.Lists.{IsList, IsListOf, has_post, kept_of};
 ghost use Rattle.ftd_program.specs.Outcomes.{Counts, CountsAnswers, IsSame, most_counted, posts_of};
@@ -31,7 +31,7 @@ pub(crate) fn count_all(list: &RecordList, answers: &[Answer], done: &mut Summar
         ≤ vec_capacity done.old.notes }
     requires fits { tally done.old + length list.now.places.items ≤ most_counted }
     requires answers { length answers.now ≡ length (filter has_post list.now.places.items) }
-    ensures counts { (records : List (ℕ × SaidEntry)) → IsListOf records list.now
+    ensures counts { (records : List (ℕ × Content)) → IsListOf records list.now
         → CountsAnswers done.old records answers.now done.new }
     ensures grows { tally done.new ≤ tally done.old + length list.now.places.items }
 {
@@ -61,7 +61,7 @@ fn post_together<S: Alter>(
 ) -> Result<(), Refusal>
     requires list { IsList list.now }
     requires fits { tally done.old + length list.now.places.items ≤ most_counted }
-    ensures posts { (records : List (ℕ × SaidEntry)) → IsListOf records list.now → OnOk result
+    ensures posts { (records : List (ℕ × Content)) → IsListOf records list.now → OnOk result
         (Posts (held S.Store desk.old) (held S.Store desk.new) records done.old done.new) }
     ensures grows { OnOk result
         (tally done.new ≤ tally done.old + length list.now.places.items) }
@@ -86,7 +86,7 @@ fn post_list<S: Alter>(
     requires list { IsList list.now }
     requires short { length list.now.places.items ≤ most_together }
     requires fits { tally done.old + length list.now.places.items ≤ most_counted }
-    ensures posts { (records : List (ℕ × SaidEntry)) → IsListOf records list.now
+    ensures posts { (records : List (ℕ × Content)) → IsListOf records list.now
         → MatchResult result
         (λ _. Posts (held S.Store desk.old) (held S.Store desk.new) records done.old done.new)
         (λ cause. StopsWithin (IsStopped desk.new) (held S.Store desk.old)

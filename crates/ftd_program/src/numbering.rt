@@ -8,9 +8,8 @@ ghost use Rattle.ftd_program.specs.Performing.{AsksNext, AsksUnder};
 use crate::performing::{Performed, answer, fail_output, print_answer};
 use ftd_answers::{Format, ListFormat};
 use ftd_desk::Desk;
-use ftd_machine::{Answer, Refusal, Request};
+use ftd_machine::{Answer, MOST_NUMBER, Refusal, Request};
 use ftd_ports::{Target, WriteFault, write_pieces};
-use ftd_verbs::GREATEST_NUMBER;
 use itoa::Buffer;
 use sqlite::Alter;
 
@@ -21,7 +20,7 @@ fn next_of(answer: &Answer) -> Option<u32>
     let Err(Refusal::NumberSkipped(count)) = answer else {
         return None;
     };
-    if *count < GREATEST_NUMBER {
+    if *count < MOST_NUMBER {
         Some(*count + 1)
     } else {
         None
@@ -51,7 +50,7 @@ pub(crate) fn ask_next<S: Alter, O: Target, E: Target>(
     ensures { AsksNext S.Store O.taken O.failed E.taken E.failed out err result
         desk.old desk.new db.now request }
 {
-    let first = request.with_number(GREATEST_NUMBER);
+    let first = request.with_number(MOST_NUMBER);
     let answer = desk.handle(&first);
     match next_of(&answer) {
         Some(number) => ask_under(desk, db, &first.with_number(number), number, out, err),

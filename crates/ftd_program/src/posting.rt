@@ -2,10 +2,11 @@
 
 ghost use Rattle.std.specs.Prelude.{◌≡◌, ◌<◌, ◌≤◌, ◌+◌, ◌∷◌, [], ℕ, List, None, IfErr, IfOk, OnOk};
 ghost use Rattle.std.specs.Prelude.{OnErr, MatchResult, length, vec_len, vec_capacity};
-ghost use Rattle.ftd_csv.specs.Records.{Entry, SaidEntry, enters};
+ghost use Rattle.ftd_csv.specs.declared.entries.Content.{Content};
+ghost use Rattle.ftd_csv.specs.declared.entries.Content.TheVariants as content;
 ghost use Rattle.ftd_desk.specs.Desks.{IsStopped, held};
 ghost use Rattle.ftd_program.specs.Lists.{IsList, IsListOf, kept_of};
-ghost use Rattle.ftd_program.specs.Outcomes.{IsSame, most_counted, post_of, posts_of, tally};
+ghost use Rattle.ftd_program.specs.Outcomes.{IsSame, most_counted, posts_of, tally};
 ghost use Rattle.ftd_program.specs.Imports.{Posts, StopsAt, StopsIn};
 
 use crate::reading::{Place, RecordList};
@@ -23,12 +24,11 @@ fn post_entry<S: Alter>(
 ) -> Result<(), StopCause>
     requires room { vec_len done.old.notes < vec_capacity done.old.notes }
     requires fits { tally done.old < most_counted }
-    ensures posts { (it : Entry) → post.now ≡ post_of it → OnOk result
-        (Posts (held S.Store desk.old) (held S.Store desk.new)
-        ((number, enters it) ∷ []) done.old done.new) }
-    ensures stops { (it : Entry) → post.now ≡ post_of it → IfErr result
+    ensures posts { OnOk result (Posts (held S.Store desk.old) (held S.Store desk.new)
+        ((number, content.Entry post.now) ∷ []) done.old done.new) }
+    ensures stops { IfErr result
         (λ cause. StopsAt (IsStopped desk.new) (held S.Store desk.old) (held S.Store desk.new)
-        (number, enters it) cause) }
+        (number, content.Entry post.now) cause) }
     ensures same { OnErr result (done.new ≡ done.old) }
     ensures grows { OnOk result (tally done.new ≤ tally done.old + 1) }
     ensures stopped { IsStopped desk.old → IsStopped desk.new }
@@ -53,12 +53,12 @@ fn post_record<'p, S: Alter>(
 ) -> Result<&'p [Request], StopCause>
     requires there { place.now.malformed ≡ None → 0 < length posts.now }
     requires fits { tally done.old < most_counted }
-    ensures left { (at : ℕ × SaidEntry) (later : List (ℕ × SaidEntry)) → place.now ≡ kept_of at
+    ensures left { (at : ℕ × Content) (later : List (ℕ × Content)) → place.now ≡ kept_of at
         → posts.now ≡ posts_of (at ∷ later) → IfOk result (λ left. left.now ≡ posts_of later) }
-    ensures posts { (at : ℕ × SaidEntry) (later : List (ℕ × SaidEntry)) → place.now ≡ kept_of at
+    ensures posts { (at : ℕ × Content) (later : List (ℕ × Content)) → place.now ≡ kept_of at
         → posts.now ≡ posts_of (at ∷ later) → OnOk result
         (Posts (held S.Store desk.old) (held S.Store desk.new) (at ∷ []) done.old done.new) }
-    ensures stops { (at : ℕ × SaidEntry) (later : List (ℕ × SaidEntry)) → place.now ≡ kept_of at
+    ensures stops { (at : ℕ × Content) (later : List (ℕ × Content)) → place.now ≡ kept_of at
         → posts.now ≡ posts_of (at ∷ later) → IfErr result
         (λ cause. StopsAt (IsStopped desk.new) (held S.Store desk.old) (held S.Store desk.new)
         at cause) }
@@ -92,7 +92,7 @@ pub(crate) fn post_all<S: Alter>(
 ) -> Result<(), StopCause>
     requires list { IsList list.now }
     requires fits { tally done.old + length list.now.places.items ≤ most_counted }
-    ensures posts { (records : List (ℕ × SaidEntry)) → IsListOf records list.now
+    ensures posts { (records : List (ℕ × Content)) → IsListOf records list.now
         → MatchResult result
         (λ _. Posts (held S.Store desk.old) (held S.Store desk.new) records done.old done.new)
         (λ cause. StopsIn (IsStopped desk.new) (held S.Store desk.old) (held S.Store desk.new)

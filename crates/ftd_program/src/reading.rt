@@ -3,10 +3,9 @@
 ghost use Rattle.std.specs.Prelude.{◌≡◌, ◌≤◌, ◌++◌, ◌∷◌, [], ℕ, List, IfOk, MatchResult, length};
 ghost use Rattle.ftd_csv.specs.Answers.{RecordsFail};
 ghost use Rattle.ftd_csv.specs.Places.{CanAdvance, Opens, place_of, rows_after};
-ghost use Rattle.ftd_csv.specs.Records.{SaidEntry};
+ghost use Rattle.ftd_csv.specs.declared.entries.Content.{Content};
 ghost use Rattle.ftd_program.specs.Lists.{IsListOf, TakesList};
 
-use crate::posts::post_of;
 use ftd_csv::{Content, RecordFault, Records, Sheet};
 use ftd_machine::Request;
 use std::alloc::{AllocError, Global};
@@ -28,13 +27,13 @@ pub(crate) struct RecordList {
 impl RecordList {
     /// Takes the record at which the records stand.
     fn take(&mut self, alloc: Global, records: &Records<'_>) -> Result<(), AllocError>
-        ensures { (before : List (ℕ × SaidEntry)) → IsListOf before self.old → IfOk result
+        ensures { (before : List (ℕ × Content)) → IsListOf before self.old → IfOk result
             (λ _. IsListOf (before ++ place_of records.now ∷ []) self.new) }
     {
         let number = records.number();
-        match records.entry() {
-            Content::Entry(entry) => {
-                self.posts.push(post_of(alloc, &entry)?)?;
+        match records.entry(alloc)? {
+            Content::Entry(post) => {
+                self.posts.push(post)?;
                 let malformed = None;
                 self.places.push(Place { number, malformed })?;
             }

@@ -1,9 +1,7 @@
 //! The records of an import that the desk refused.
 
-ghost use Rattle.std.specs.Prelude.{◌≡◌, IfOk};
-ghost use Rattle.ftd_csv.specs.Records as records;
-ghost use Rattle.ftd_program.specs.Outcomes.{post_of};
-ghost use Rattle.ftd_program.specs.Refused.{refused_record};
+ghost use Rattle.std.specs.Prelude.{◌≡◌, Some, IfOk, option_map};
+ghost use Rattle.ftd_program.specs.Refused.{posted_entry, refused_record};
 
 use ftd_machine::{Account, AccountName, Entry, Refusal, Request, ReturnPeriod};
 use ftd_rules::{PayRun, Payment};
@@ -59,8 +57,8 @@ pub(crate) fn refused_record(
     post: &Request,
     refusal: Refusal,
 ) -> Result<RefusedRecord, AllocError>
-    ensures { (it : records.Entry) → post.now ≡ post_of it
-        → IfOk result (λ those. those ≡ refused_record number it refusal) }
+    ensures { IfOk result (λ those.
+        option_map (refused_record number refusal) (posted_entry post.now) ≡ Some those) }
 {
     let (employer, entry) = match post {
         Request::Post {

@@ -1,16 +1,18 @@
 //! The pay runs of one account with a payday in one year.
 
-ghost use Rattle.std.specs.Prelude.{◌≡◌, ◌≤◌, MatchResult, length};
+ghost use Rattle.std.specs.Prelude.{◌≡◌, ◌≤◌, ◌&&◌, ◌==◌, MatchResult, length};
 ghost use Rattle.std.specs.BTreeMap.{IsOrdered};
 ghost use Rattle.std.specs.Ordering.{nat_cmp};
-ghost use Rattle.ftd_csv.specs.Answers.{run_view};
-ghost use Rattle.ftd_csv.specs.Places.{CanAdvance, number_of, run_at, runs_left};
-ghost use Rattle.ftd_program.specs.Plain.{is_taken, most_runs};
-ghost use Rattle.ftd_program.specs.Taking.{TakesRun, RefusesRun, TakesRecord, RefusesRecord, TakesAll};
-ghost use Rattle.ftd_program.specs.Taking.{StopsAtFault};
+ghost use Rattle.std.specs.Str.{bytes_eq};
+ghost use Rattle.ftd_days.specs.Calendar.{year_of};
+ghost use Rattle.ftd_csv.specs.Places.{CanAdvance, number_of};
+ghost use Rattle.ftd_program.specs.Plain.{most_runs, run_said};
+ghost use Rattle.ftd_program.specs.Taking.{RefusesRecord, RefusesRun, StopsAtFault, TakesAll};
+ghost use Rattle.ftd_program.specs.Taking.{TakesRecord, TakesRun, runs_left};
 
 use crate::fault::PlainFault;
-use ftd_csv::{Content, EmployerRun, Records};
+use ftd_csv::{Content, Records};
+use ftd_machine::{AccountName, Request};
 use ftd_rules::PayRun;
 use std::alloc::Global;
 use std::collections::BTreeMap;
@@ -18,37 +20,38 @@ use std::collections::BTreeMap;
 /// The most runs of an account.
 const MOST_RUNS: usize = 20_000;
 
-/// Whether the run is of the account, with a payday in the year.
-fn is_taken(run: &EmployerRun, account: &str, year: u32) -> bool
-    ensures { result ≡ is_taken account.now year (run_view run.now) }
+/// Whether the run of the employer is one of the account, with a payday in the year.
+fn is_taken(employer: &AccountName, run: &PayRun, account: &str, year: u32) -> bool
+    ensures { result ≡ (bytes_eq employer.now account.now && (year_of run.now.payday == year)) }
 {
-    run.employer == account && run.run.payday.year() == year
+    employer.as_str() == account && run.payday.year() == year
 }
 
 /// Takes a run of the account.
-fn take_run(runs: &mut BTreeMap<u32, PayRun>, run: &EmployerRun) -> Result<(), PlainFault>
+fn take_run(runs: &mut BTreeMap<u32, PayRun>, number: u32, run: &PayRun) -> Result<(), PlainFault>
     requires ordered { IsOrdered nat_cmp runs.old }
     requires few { length runs.old.entries ≤ most_runs }
     ensures ordered { IsOrdered nat_cmp runs.new }
     ensures takes { MatchResult result
-        (λ _. TakesRun runs.old.entries (run_view run.now) runs.new.entries)
-        (λ fault. RefusesRun runs.old.entries (run_view run.now) fault) }
+        (λ _. TakesRun runs.old.entries number run.now runs.new.entries)
+        (λ fault. RefusesRun runs.old.entries number run.now fault) }
 {
-    match runs.get(&run.number) {
-        Some(known) if *known == run.run => Ok(()),
-        Some(_) => Err(PlainFault::RunDiffers(run.number)),
+    match runs.get(&number) {
+        Some(known) if known == run => Ok(()),
+        Some(_) => Err(PlainFault::RunDiffers(number)),
         None if runs.len() == MOST_RUNS => Err(PlainFault::TooManyRuns),
         None => {
-            runs.insert(run.number, run.run)?;
+            runs.insert(number, *run)?;
             Ok(())
         }
     }
 }
 
-/// Takes what the record says at which the records stand.
-fn take_record(
+/// Takes what a record says: a run of the account, if it is one.
+fn take_content(
     runs: &mut BTreeMap<u32, PayRun>,
-    records: &Records<'_>,
+    content: &Content,
+    number: u32,
     account: &str,
     year: u32,
 ) -> Result<(), PlainFault>
@@ -56,18 +59,28 @@ fn take_record(
     requires few { length runs.old.entries ≤ most_runs }
     ensures ordered { IsOrdered nat_cmp runs.new }
     ensures takes { MatchResult result
-        (λ _. TakesRecord account.now year runs.old.entries (run_at records.now)
-        runs.new.entries)
-        (λ fault. RefusesRecord account.now year (number_of records.now) runs.old.entries
-        (run_at records.now) fault) }
+        (λ _. TakesRecord account.now year runs.old.entries (run_said content.now) runs.new.entries)
+        (λ fault. RefusesRecord account.now year number runs.old.entries (run_said content.now)
+        fault) }
 {
-    match records.run() {
+    match content {
         Content::Malformed(field) => Err(PlainFault::Malformed {
-            number: records.number(),
-            field,
+            number,
+            field: *field,
         }),
-        Content::Entry(run) if is_taken(&run, account, year) => take_run(runs, &run),
-        Content::Entry(_) => Ok(()),
+        Content::Entry(
+            Request::Post {
+                account: employer,
+                number,
+                run,
+            },
+        ) => {
+            if is_taken(employer, run, account, year) {
+                return take_run(runs, *number, run);
+            }
+            Ok(())
+        }
+        Content::Entry(_) => Err(PlainFault::Malformed { number, field: 0 }),
     }
 }
 
@@ -88,7 +101,8 @@ pub fn take_records(
 {
     let mut runs = BTreeMap::new(alloc);
     while records.advance()? {
-        take_record(&mut runs, records, account, year)?;
+        let content = records.entry(alloc)?;
+        take_content(&mut runs, &content, records.number(), account, year)?;
     }
     Ok(runs)
 }

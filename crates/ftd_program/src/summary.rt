@@ -2,8 +2,7 @@
 
 ghost use Rattle.std.specs.Prelude.{◌≡◌, ◌<◌, ◌≤◌, ◌+◌, ◌∷◌, [], vec_len, vec_capacity};
 ghost use Rattle.ftd_program.specs.Outcomes.{Counts, IsNothing, fault_of, most_counted, posted};
-ghost use Rattle.ftd_program.specs.Outcomes.{post_of, skipped, tally, text_cause};
-ghost use Rattle.ftd_csv.specs.Records.{Entry};
+ghost use Rattle.ftd_program.specs.Outcomes.{skipped, tally, text_cause};
 
 use crate::changes::{AccountChange, account_change};
 use crate::collection::Collection;
@@ -159,8 +158,7 @@ impl Summary {
     pub(crate) fn count(&mut self, number: u32, post: &Request, answer: &Answer)
         requires room { vec_len self.old.notes < vec_capacity self.old.notes }
         requires fits { tally self.old < most_counted }
-        ensures counts { (it : Entry) → post.now ≡ post_of it
-            → Counts self.old (posted number it answer.now ∷ []) self.new }
+        ensures counts { Counts self.old (posted number post.now answer.now ∷ []) self.new }
         ensures adds { vec_len self.new.notes ≤ vec_len self.old.notes + 1 }
         ensures room { vec_capacity self.new.notes ≡ vec_capacity self.old.notes }
         ensures grows { tally self.new ≤ tally self.old + 1 }

@@ -2,7 +2,7 @@
 
 ghost use Rattle.std.specs.Prelude.{◌≡◌, ◌⊎◌, ◌+◌, ◌≤◌, ℕ, List, IfErr, OnOk, OnErr, MatchResult};
 ghost use Rattle.std.specs.Prelude.{length};
-ghost use Rattle.ftd_csv.specs.Records.{SaidEntry};
+ghost use Rattle.ftd_csv.specs.declared.entries.Content.{Content};
 ghost use Rattle.ftd_desk.specs.Desks.{held};
 ghost use Rattle.ftd_desk.specs.Telling.{StandsAsBefore};
 ghost use Rattle.ftd_program.specs.Lists.{IsList, IsListOf};
@@ -63,7 +63,7 @@ fn try_list<S: Alter>(
 ) -> Result<(), StopCause>
     requires list { IsList list.now }
     requires fits { tally done.old + length list.now.places.items ≤ most_counted }
-    ensures tells { (records : List (ℕ × SaidEntry)) → IsListOf records list.now → OnOk result
+    ensures tells { (records : List (ℕ × Content)) → IsListOf records list.now → OnOk result
         (WouldPost (held S.Store desk.old) (held S.Store desk.new) records done.old done.new) }
     ensures fault { IfErr result (λ why. (why ≡ cause.Memory) ⊎ (why ≡ cause.Store)) }
     ensures same { OnErr result (IsSame done.old done.new) }

@@ -15,7 +15,7 @@ ghost use Rattle.ftd_questions.specs.DueRows.{KnowsYears};
 use crate::due::{QuarterRows, rows_of_quarter};
 use crate::listing::due_between;
 use ftd_days::{Day, Holidays, Quarter};
-use ftd_entries::known;
+use ftd_entries::known_account;
 use ftd_machine::{Account, AccountName, AgendaRow};
 use ftd_rules::period::return_period;
 use ftd_rules::{DueRow, Form, Verdict};
@@ -106,7 +106,7 @@ fn account_and_years<S: Alter>(
         KnowsAccount name.now (Some found.0) t
         × (KnowsLastYears last t → KnowsYears quarter found.1 t)) }
 {
-    let Some(account) = known(tx, alloc, name)? else {
+    let Some(account) = known_account(tx, alloc, name)? else {
         return tx.give_up(StoreFault::Failed);
     };
     if let Some(holidays) = last_years(last, quarter) {

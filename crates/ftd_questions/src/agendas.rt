@@ -40,7 +40,7 @@ pub fn agenda<S: Alter>(
     ensures call { Calls S.Store tx.old tx.new result (Serves (Question (questions.Agenda from to as_of))) }
 {
     let rows = rows_due(tx, alloc, from, to, as_of, None)?;
-    if let Some(answer) = agenda_check(from, to, as_of) {
+    if let Err(answer) = agenda_check(from, to, as_of) {
         return Ok(answer);
     }
     match by_due_date(rows) {
@@ -65,7 +65,7 @@ pub fn owed<S: Alter>(
 {
     let from = Day::first_of_month(0);
     let rows = rows_due(tx, alloc, from, until, as_of, Some(as_of))?;
-    if let Some(answer) = owed_check(until, as_of) {
+    if let Err(answer) = owed_check(until, as_of) {
         return Ok(answer);
     }
     match by_due_date(rows) {

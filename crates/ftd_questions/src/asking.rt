@@ -1,7 +1,7 @@
 //! What a due list that is told row by row rests on besides its obligations, or why it is refused.
 
 ghost use Rattle.std.specs.Prelude.{◌≡◌, ◌⊎◌, ◌<◌, ◌≤◌, None, Some, Ok, Err, IfOk, IfErr};
-ghost use Rattle.std.specs.Prelude.{IsTrue, MatchOption, MatchResult};
+ghost use Rattle.std.specs.Prelude.{IsTrue, MatchResult};
 ghost use Rattle.std.specs.List.{sum_by};
 ghost use Rattle.ftd_days.specs.Calendar.{quarter_year};
 ghost use Rattle.ftd_rules.specs.Payments.{payment_cents};
@@ -20,7 +20,7 @@ use crate::due::{KnownForDue, known_for_due};
 use crate::faults::refusal_of;
 use ftd_days::{Day, Holidays, Quarter};
 use ftd_entries::{ReturnFacts, return_period};
-use ftd_machine::{Answer, Refusal, due_list_check};
+use ftd_machine::{Refusal, due_list_check};
 use ftd_rules::{AMOUNTS_END, Form};
 use ftd_store::{Store, StoreFault, Tx};
 use sqlite::Alter;
@@ -37,17 +37,6 @@ pub(crate) struct KnownReturn {
     pub period: ReturnFacts,
 }
 
-/// Why a request is refused, if the check that decided refuses it.
-fn refusal_in(checked: &Option<Answer>) -> Option<Refusal>
-    ensures { MatchOption result ((refusal : _) → checked.now ≡ Some (Err refusal) → ⊥)
-        (λ refusal. checked.now ≡ Some (Err refusal)) }
-{
-    match checked {
-        Some(Err(refusal)) => Some(*refusal),
-        Some(Ok(_)) | None => None,
-    }
-}
-
 /// The account's form, or why its due list is refused by what is known.
 #[tactic(auto, using(crate::proofs::Shown::due_list_passed, crate::proofs::Shown::unknown_refused))]
 fn asked_form(
@@ -62,12 +51,11 @@ fn asked_form(
         known.now.account known.now.is_open) ≡ Some (Err refusal)) }
 {
     let checked = due_list_check(name, quarter, as_of, known.account, known.is_open);
-    if let Some(refusal) = refusal_in(&checked) {
-        return Err(refusal);
-    }
-    match known.account {
-        Some(account) => Ok(account.form),
-        None => Err(Refusal::UnknownAccount),
+    match &checked {
+        Ok(account) => Ok(account.form),
+        Err(Err(refusal)) => Err(*refusal),
+        // a due list was never asked for before
+        Err(Ok(_)) => Err(Refusal::UnknownAccount),
     }
 }
 

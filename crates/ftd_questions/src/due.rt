@@ -11,10 +11,8 @@ ghost use Rattle.ftd_questions.specs.Shown.{KnowsQuarter, Shows};
 
 use crate::due_rows::{due_rows, has_next_day, quarter_return};
 use ftd_days::{Day, Holidays, Quarter};
-use ftd_entries::{is_open, known, return_period};
-use ftd_machine::{
-    Account, AccountName, Answer, DueList, DueRows, Facts, Refusal, Reply, due_list_check,
-};
+use ftd_entries::{is_open, known_account, return_period};
+use ftd_machine::{Account, AccountName, Answer, DueList, DueRows, Facts, Reply, due_list_check};
 use ftd_rules::{DueRow, Form};
 use ftd_store::{StoreFault, Tx};
 use sqlite::Alter;
@@ -49,7 +47,7 @@ pub(crate) fn known_for_due<S: Alter>(
 ) -> Result<KnownForDue, StoreFault>
     ensures call { Reads S.Store tx.old tx.new result (KnowsForDue name.now quarter) }
 {
-    let account = known(tx, alloc, name)?;
+    let account = known_account(tx, alloc, name)?;
     let is_open = is_open(tx, alloc, name, quarter.year())?;
     Ok(KnownForDue { account, is_open })
 }
@@ -106,13 +104,10 @@ pub fn due_list<S: Alter>(
     };
     let before = known_for_due(tx, alloc, name, quarter)?;
     let checked = due_list_check(name, quarter, as_of, before.account, before.is_open);
-    if let Some(answer) = checked {
-        return Ok(answer);
-    }
-    let Some(account) = &before.account else {
-        return Ok(Err(Refusal::UnknownAccount));
+    let form = match checked {
+        Ok(account) => account.form,
+        Err(answer) => return Ok(answer),
     };
-    let form = account.form;
     let year = quarter.year();
     let holidays = tx.holidays(alloc, year, year + 1)?;
     let found = rows_of_quarter(tx, alloc, name, form, quarter, as_of, holidays)?;

@@ -16,7 +16,7 @@ ghost use Rattle.ftd_questions.specs.Walks.{Stays, KeptIfOpen};
 
 use crate::faults::refusal_of;
 use ftd_days::{Cents, Day, Quarter};
-use ftd_entries::{enrolled, known};
+use ftd_entries::{enrolment, known_account};
 use ftd_machine::{Account, Refusal};
 use ftd_rules::{PayRun, Payment, Voidable, YearLine};
 use ftd_store::{Store, StoreFault, Tx};
@@ -141,7 +141,7 @@ fn first_year_in<S: Alter>(
 ) -> Result<Option<u32>, StoreFault>
     ensures call { Reads S.Store tx.old tx.new result (KnowsFirstYear name.now) }
 {
-    let account = known(tx, alloc, name)?;
+    let account = known_account(tx, alloc, name)?;
     let lines = tx.years(alloc, name)?;
     Ok(first_among(account, &lines))
 }
@@ -188,7 +188,7 @@ pub fn enrolled_account<S: Alter>(
         Ok(tx) => tx,
         Err(fault) => return Err(refusal_of(fault)),
     };
-    match enrolled(&mut tx, name) {
+    match enrolment(&mut tx, name) {
         Ok(kept) => Ok(kept),
         Err(fault) => Err(refusal_of(fault)),
     }

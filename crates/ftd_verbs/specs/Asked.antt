@@ -4,6 +4,7 @@ use Rattle.std.specs.Prelude.{ℕ, ◌+◌, ◌-◌, min, Bool, List, Result, Ok
 use Rattle.ftd_days.specs.Calendar.{last_day, year_start}
 use Rattle.ftd_days.specs.declared.cents.Cents.{Cents}
 use Rattle.ftd_rules.specs.declared.Form.{Form}
+use Rattle.ftd_machine.specs.declared.limits.TheConstants.{MOST_NUMBER}
 use Rattle.ftd_machine.specs.declared.requests.Kept.TheVariants as kept
 use Rattle.ftd_machine.specs.declared.requests.Question.TheVariants as question
 use Rattle.ftd_machine.specs.declared.requests.Request.{Request}
@@ -50,7 +51,7 @@ days_in said = needed field.Days (said.days field.Days)
 -- the number of a correction, or the greatest where it is left out: the desk answers to it how many
 -- corrections there are, unless it answers otherwise
 abbrev pub greatest_number : ℕ
-greatest_number = 999999999
+greatest_number = MOST_NUMBER
 
 abbrev pub number_in : Said → Result ℕ Field
 number_in said =

@@ -12,4 +12,4 @@ pub use crate::field::{Field, FieldFault, Kind};
 pub use crate::fields::Fields;
 pub use crate::formats::Formats;
 pub use crate::rows::{Method, Part, Row, VERBS, Verb};
-pub use crate::verbs::{GREATEST_NUMBER, last_asked, read_request};
+pub use crate::verbs::{last_asked, read_request};

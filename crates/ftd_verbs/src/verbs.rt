@@ -14,16 +14,14 @@ ghost use Rattle.ftd_verbs.specs.Asked.{void_pay, week_after, whole_in, years};
 use crate::{Field, FieldFault, Fields, Verb};
 use ftd_days::{Cents, Day, Quarter};
 use ftd_machine::{
-    Account, AccountName, Beginning, Correction, Days, Entry, Kept, Question, Request, ReturnPeriod,
+    Account, AccountName, Beginning, Correction, Days, Entry, Kept, MOST_NUMBER, Question, Request,
+    ReturnPeriod,
 };
 use ftd_rules::{Form, PayRun, Payment};
 use std::alloc::Global;
 
 /// The number of the last day, 31 December 2199, in days since 1970-01-01.
 const LAST_NUMBER: i32 = 84_005;
-
-/// The greatest number of a correction.
-pub const GREATEST_NUMBER: u32 = 999_999_999;
 
 fn account_in<F: Fields>(alloc: Global, fields: &F) -> Result<AccountName, FieldFault>
     ensures { Tells result (account_in (F.said fields.now)) }
@@ -84,7 +82,7 @@ fn number_in<F: Fields>(fields: &F) -> Result<u32, FieldFault>
     ensures { Tells result (number_in (F.said fields.now)) }
 {
     if fields.is_left_out(Field::Number) {
-        return Ok(GREATEST_NUMBER);
+        return Ok(MOST_NUMBER);
     }
     whole_in(fields, Field::Number)
 }

@@ -1,5 +1,4 @@
 use Rattle.std.proofs.Common.{◌≡◌, ◌-◌, [], sym, ap, ◌∙◌, arith}
-use Rattle.ftd_csv.specs.Answers.{entry_said}
 use Rattle.ftd_csv.specs.Places.{Advances}
 use Rattle.ftd_ports.proofs.WritingFacts.{begins, ends, goes_on, stops_after}
 use Rattle.ftd_csv.specs.HintPlaces.{hints_left}
@@ -13,7 +12,7 @@ pub returns-in_err-write_hint-clause-err : goal.returns-in_err-write_hint-clause
 returns-in_err-write_hint-clause-err g c =
     let goes : Advances c.loop-left.records c.advance.new.self =
     rw c.if-branch.true at c.in_ok-advance.ensures in
-    let bad = sym c.entry.ensures ∙ ap entry_said c.in-Malformed.is in
+    let bad = rw c.in-Malformed.is at (sym c.in_ok-field.ensures) in
     let stops = stops_after {r = c.from_residual-in_err-write_hint.result} _
     c.from_residual-in_err-write_hint.ensures.0 c.loop-left.invariant.written
     (past_bad _ (c.loop-left.left - 1) _ _ _ goes bad (omega arith)) c.in_err-write_hint.ensures in
@@ -23,7 +22,7 @@ pub loop-left-preserved-in-Malformed : goal.loop-left-preserved-in-Malformed
 loop-left-preserved-in-Malformed g c =
     let goes : Advances c.loop-left.records c.advance.new.self =
     rw c.if-branch.true at c.in_ok-advance.ensures in
-    let bad = sym c.entry.ensures ∙ ap entry_said c.in-Malformed.is in
+    let bad = rw c.in-Malformed.is at (sym c.in_ok-field.ensures) in
     record {
       can = goes.can;
       written = goes_on _ _ c.loop-left.invariant.written

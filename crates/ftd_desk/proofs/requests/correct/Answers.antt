@@ -1,10 +1,12 @@
 use Rattle.std.proofs.Common.{◌∙◌, sym, ap}
 use Rattle.ftd_machine.specs.declared.requests.Request.TheVariants.{Correct}
 use Rattle.ftd_machine.specs.declared.requests.Correction.TheVariants as correction
+use Rattle.ftd_posting.specs.Repaired.{Repairs}
 use Rattle.ftd_desk.proofs.Repairing.{asked_repairs}
 use Rattle.ftd_desk.proofs.requests.correct.Goals as goal
 
 pub returns-in-Total-clause-repairs : goal.returns-in-Total-clause-repairs
+unfolding Repairs
 returns-in-Total-clause-repairs g c =
     let total = c.in-Total in
     asked_repairs g.S.Store

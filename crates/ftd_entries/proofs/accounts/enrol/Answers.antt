@@ -5,13 +5,13 @@ use Rattle.ftd_entries.proofs.Serving.{served_looked, served_changed}
 use Rattle.ftd_entries.proofs.Enrolling.{enrol_decided, enrol_done}
 use Rattle.ftd_entries.proofs.accounts.enrol.Goals as goal
 
-pub returns-in-Some : goal.returns-in-Some
-returns-in-Some g c =
+pub returns-in-Err : goal.returns-in-Err
+returns-in-Err g c =
     let account = c.args.account in
     record {
       call = served_looked (Enter (entry.Account c.args.name.now account))
-          c.in-Some.answer c.in_ok-known.ensures.call (enrol_decided c.args.name.now account
-          c.in_ok-known.known c.in-Some.answer (search rules));
+          c.in-Err.answer c.in_ok-known.ensures.call (enrol_decided c.args.name.now account
+          c.in_ok-known.known c.in-Err.answer (search rules));
     }
 
 pub returns : goal.returns

@@ -5,13 +5,13 @@ use Rattle.ftd_entries.proofs.Serving.{served_looked, served_changed}
 use Rattle.ftd_entries.proofs.PutRight.{put_right_decided, put_right_done}
 use Rattle.ftd_entries.proofs.beginnings.correct_account.Goals as goal
 
-pub returns-in-Some : goal.returns-in-Some
-returns-in-Some g c =
+pub returns-in-Err : goal.returns-in-Err
+returns-in-Err g c =
     let begins = c.args.beginning in
     record {
       call = served_looked (Correct c.args.number (correction.Account c.args.name.now begins))
-          c.in-Some.answer c.in_ok-before.ensures.call (put_right_decided c.args.name.now
-          c.args.number begins c.in_ok-before.before c.in-Some.answer (search rules));
+          c.in-Err.answer c.in_ok-before.ensures.call (put_right_decided c.args.name.now
+          c.args.number begins c.in_ok-before.before c.in-Err.answer (search rules));
     }
 
 pub returns : goal.returns

@@ -8,18 +8,18 @@ use Rattle.ftd_entries.proofs.CalendarRows.{days_found, calendar_known}
 use Rattle.ftd_entries.proofs.Giving.{calendar_decided, calendar_done}
 use Rattle.ftd_entries.proofs.calendars.take_calendar.Goals as goal
 
-pub returns-in-Some : goal.returns-in-Some
-returns-in-Some g c =
+pub returns-in-Err : goal.returns-in-Err
+returns-in-Err g c =
     let year = c.args.year in
     let days = c.args.days.now in
     let found = c.in_ok-known.known in
     let decided : first_of (calendar_checks year days (option_map days_found found))
-    ≡ Some c.in-Some.answer = search rules in
+    ≡ Some c.in-Err.answer = search rules in
     record {
-      call = served_looked (Enter (entry.Calendar year days)) c.in-Some.answer
+      call = served_looked (Enter (entry.Calendar year days)) c.in-Err.answer
           c.in_ok-known.ensures.call
           (λ t s stands sound finds. calendar_decided year days (option_map days_found found)
-          c.in-Some.answer decided s (calendar_known year found t s stands sound finds));
+          c.in-Err.answer decided s (calendar_known year found t s stands sound finds));
     }
 
 pub returns : goal.returns

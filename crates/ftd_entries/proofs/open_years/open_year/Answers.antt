@@ -11,25 +11,25 @@ use Rattle.ftd_entries.proofs.open_years.open_year.Goals as goal
 use Rattle.ftd_entries.proofs.open_years.open_year.Goals.{else-not-is_empty-via-then-not-is_empty+else-not-has_year}
 use Rattle.ftd_entries.proofs.open_years.open_year.Goals.{else-not-is_empty-via-else-not-is_empty}
 
-pub returns-in-Some : goal.returns-in-Some
-returns-in-Some g c = record {
-  call = served_looked (Enter (entry.Year c.args.name.now c.args.year)) c.in-Some.answer
-      c.in_ok-known.ensures.call
-      (year_decided c.args.name.now c.args.year c.in_ok-known.known c.has_year-there.result
-      (search rules) c.in-Some.answer (search rules));
-}
-
 pub returns-in-Err : goal.returns-in-Err
 returns-in-Err g c = record {
+  call = served_looked (Enter (entry.Year c.args.name.now c.args.year)) c.in-Err.answer
+      c.in_ok-known.ensures.call
+      (year_decided c.args.name.now c.args.year c.in_ok-known.known c.has_year-there.result
+      (search rules) c.in-Err.answer (search rules));
+}
+
+pub returns-in-Err-2 : goal.returns-in-Err-2
+returns-in-Err-2 g c = record {
   call = served_lacking c.args.name.now c.args.year c.in_ok-known.known c.has_year-there.result
-      (search rules) c.in-Some-account.account c.in-Some-account.is (search rules) c.in-Err.is
+      (search rules) c.in-Ok.account c.in-Ok.ensures.1 (search rules) c.in-Err-2.is
       c.in_ok-known.ensures.call c.in_ok-total.ensures.call;
 }
 
 pub returns-then-not-has_year : goal.returns-then-not-has_year
 returns-then-not-has_year g c = record {
   call = served_waiting c.args.name.now c.args.year c.in_ok-known.known c.has_year-there.result
-      (search rules) c.in-Some-account.account c.in-Some-account.is (search rules) c.in-Ok.is
+      (search rules) c.in-Ok.account c.in-Ok.ensures.1 (search rules) c.in-Ok-2.is
       (search rules) (search rules) c.in_ok-known.ensures.call c.in_ok-total.ensures.call;
 }
 
@@ -44,11 +44,11 @@ returns g c =
       | else-not-is_empty-via-else-not-is_empty w ↦
           sym (or_then first before true (search rules) refl)
     ] in
-    let next = subst (λ those. IsNextLine c.in-Some-account.account.carried those c.args.year
-    c.in-Ok.total c.next_line.result) c.deref-2.ensures.value c.next_line.ensures in
+    let next = subst (λ those. IsNextLine c.in-Ok.account.carried those c.args.year
+    c.in-Ok-2.total c.next_line.result) c.deref-2.ensures.value c.next_line.ensures in
     record {
       call = served_opened c.args.name.now c.args.year c.in_ok-known.known c.has_year-there.result
-          (search rules) c.in-Some-account.account c.in-Some-account.is (search rules) c.in-Ok.is
+          (search rules) c.in-Ok.account c.in-Ok.ensures.1 (search rules) c.in-Ok-2.is
           may
           next c.in_ok-known.ensures.call c.in_ok-total.ensures.call c.in_ok-put_year.ensures.call;
     }

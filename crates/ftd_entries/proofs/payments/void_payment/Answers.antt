@@ -5,13 +5,13 @@ use Rattle.ftd_entries.proofs.Serving.{served_looked, served_changed}
 use Rattle.ftd_entries.proofs.Paying.{void_decided, void_done}
 use Rattle.ftd_entries.proofs.payments.void_payment.Goals as goal
 
-pub returns-in-Some : goal.returns-in-Some
-returns-in-Some g c = record {
+pub returns-in-Err : goal.returns-in-Err
+returns-in-Err g c = record {
   call = served_looked
       (VoidPay c.args.name.now c.args.number) _ (both_read c.in_ok-account.ensures.call
       c.in_ok-kept.ensures.call)
       (void_decided c.args.name.now c.args.number (c.in_ok-account.account, c.in_ok-kept.kept)
-      c.in-Some.answer
+      c.in-Err.answer
       (search rules));
 }
 

@@ -12,11 +12,11 @@ use Rattle.ftd_kept.specs.Explained.{KnowsExplained}
 use Rattle.ftd_kept.proofs.Scheduling.{account_and_lines, checks_are}
 use Rattle.ftd_kept.proofs.explaining.explain.Goals as goal
 
-pub returns-in-Some : goal.returns-in-Some
-returns-in-Some g c = record {
-  call = served_looked (Question (Explain c.args.name.now c.args.day)) c.in-Some.answer
+pub returns-in-Err : goal.returns-in-Err
+returns-in-Err g c = record {
+  call = served_looked (Question (Explain c.args.name.now c.args.day)) c.in-Err.answer
       (account_and_lines c.args.name.now c.in_ok-account.ensures.call c.in_ok-lines.ensures.call)
-      (λ t s stands sound knows. decided _ s c.in-Some.answer _
+      (λ t s stands sound knows. decided _ s c.in-Err.answer _
       (checks_are c.args.name.now c.args.day _ _ t s stands (knows s stands).0 (knows s stands).1
       ∙ search rules));
 }
@@ -27,7 +27,7 @@ returns g c =
     let day = c.args.day in
     let lines = c.in_ok-lines.lines.items in
     let account = c.in_ok-account.account in
-    let form = c.in-Some-account.account.form in
+    let form = c.in-Ok-status_check.account.form in
     let explained = c.in_ok-found.found in
     let answer = explained_answer c.in-Ok.owner day explained in
     record {
@@ -48,7 +48,7 @@ returns g c =
               are_owed = owes (stands.settled name);
               explained = explained;
               is_explained = knows.1 s stands sound
-                  (ap form_of (told.0 ∙ c.in-Some-account.is)) told.1;
+                  (ap form_of (told.0 ∙ c.in-Ok-status_check.ensures.1)) told.1;
               told = ap (λ n. explained_answer n day explained) c.in-Ok.ensures;
             },
           )));

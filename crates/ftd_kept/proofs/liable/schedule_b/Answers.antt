@@ -11,14 +11,14 @@ use Rattle.ftd_entries.proofs.Serving.{served_looked}
 use Rattle.ftd_kept.proofs.Billing.{Knows, days_decided, days_told}
 use Rattle.ftd_kept.proofs.liable.schedule_b.Goals as goal
 
-pub returns-in-Some : goal.returns-in-Some
-returns-in-Some g c =
+pub returns-in-Err : goal.returns-in-Err
+returns-in-Err g c =
     let there = c.in_ok-there.there in
     record {
-      call = served_looked (Question (ScheduleB c.args.name.now c.args.quarter)) c.in-Some.answer
+      call = served_looked (Question (ScheduleB c.args.name.now c.args.quarter)) c.in-Err.answer
           (both_read c.in_ok-account.ensures.call c.in_ok-there.ensures.call)
           (λ t s stands sound knows. days_decided c.args.name.now
-          c.args.quarter (c.in_ok-account.account, there) c.in-Some.answer (search rules) t s
+          c.args.quarter (c.in_ok-account.account, there) c.in-Err.answer (search rules) t s
           stands sound (
             knows.0,
             subst (λ year. KnowsYear c.args.name.now year there t)

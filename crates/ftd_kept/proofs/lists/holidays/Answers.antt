@@ -17,15 +17,15 @@ use Rattle.ftd_entries.proofs.KnownYears.{mapped_some}
 use Rattle.ftd_kept.specs.Kept.{KnowsHolidays}
 use Rattle.ftd_kept.proofs.lists.holidays.Goals as goal
 
-pub returns-in-Some : goal.returns-in-Some
-returns-in-Some g c =
+pub returns-in-Err : goal.returns-in-Err
+returns-in-Err g c =
     let year = c.args.year in
     let given = c.in_ok-given.given in
-    let is : first_of (holidays_checks year (is_some given)) ≡ Some c.in-Some.answer =
+    let is : first_of (holidays_checks year (is_some given)) ≡ Some c.in-Err.answer =
     search rules in
     record {
-      call = served_looked (Question (questions.Kept (kept.Holidays year))) c.in-Some.answer
-          c.in_ok-given.ensures.call (λ t s stands sound finds. decided _ s c.in-Some.answer _
+      call = served_looked (Question (questions.Kept (kept.Holidays year))) c.in-Err.answer
+          c.in_ok-given.ensures.call (λ t s stands sound finds. decided _ s c.in-Err.answer _
           (ap (λ b. first_of (holidays_checks year b))
           (ap is_some (calendar_known year given t s stands sound finds)
           ∙ mapped_some days_found given) ∙ is));
@@ -35,7 +35,7 @@ pub returns : goal.returns
 returns g c =
     let year = c.args.year in
     let given = c.in_ok-given.given in
-    let days = c.in-Some-given.days in
+    let days = c.in-Some.days in
     let listed = c.in_ok-rows.rows in
     let read = then_reads given
     (λ o t. FindsCalendar year o t × KnowsHolidays year days.items listed.items t)
@@ -50,7 +50,7 @@ returns g c =
           (λ t s stands sound knows.
           (let known = calendar_known year given t s stands sound knows.0 in
           let found : calendar_at s year ≡ Some days.items =
-          known ∙ ap (option_map days_found) c.in-Some-given.is in
+          known ∙ ap (option_map days_found) c.in-Some.is in
           passed _ s answer s _
           (ap (λ b. first_of (holidays_checks year b))
           (ap is_some known ∙ mapped_some days_found given) ∙ is) (

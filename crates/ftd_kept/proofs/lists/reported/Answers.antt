@@ -17,11 +17,11 @@ use Rattle.ftd_entries.proofs.Serving.{served_looked}
 use Rattle.ftd_kept.specs.Kept.{KnowsTotals}
 use Rattle.ftd_kept.proofs.lists.reported.Goals as goal
 
-pub returns-in-Some : goal.returns-in-Some
-returns-in-Some g c = record {
-  call = served_looked (Question (questions.Kept (kept.Reported c.args.name.now))) c.in-Some.answer
+pub returns-in-Err : goal.returns-in-Err
+returns-in-Err g c = record {
+  call = served_looked (Question (questions.Kept (kept.Reported c.args.name.now))) c.in-Err.answer
       c.in_ok-found.ensures.call (λ t s stands sound knows.
-      decided _ s c.in-Some.answer _ (ap (λ a. first_of (kept_of_checks c.args.name.now a))
+      decided _ s c.in-Err.answer _ (ap (λ a. first_of (kept_of_checks c.args.name.now a))
       (knows s stands) ∙ search rules));
 }
 
@@ -33,7 +33,7 @@ returns g c =
     record {
       call = served_looked (Question (questions.Kept (kept.Reported name))) answer
           (then_reads c.in_ok-found.found (λ a t. KnowsAccount name a t
-          × KnowsTotals name c.in-Some-found.account.form listed.items t)
+          × KnowsTotals name c.in-Ok-kept_of_check.account.form listed.items t)
           c.in_ok-found.ensures.call c.in_ok-rows.ensures.call (λ t knows totals. (knows, totals)))
           (λ t s stands sound knows. passed _ s answer s _
           (ap (λ a. first_of (kept_of_checks name a)) (knows.0 s stands) ∙ search rules) (
@@ -43,7 +43,7 @@ returns g c =
               by_period = knows.1.by_period;
               all = λ x. subst (λ f. (Has listed.items x → IsTotal f (entries_of s name) x)
                   × (IsTotal f (entries_of s name) x → Has listed.items x))
-                  (sym (ap form_of (knows.0 s stands ∙ c.in-Some-found.is)))
+                  (sym (ap form_of (knows.0 s stands ∙ c.in-Ok-kept_of_check.ensures.1)))
                   (knows.1.all s stands sound x);
               told = ap₂ (λ n xs. kept_answer (rows.Reported n xs)) c.in-Ok.ensures c.from_vec.ensures;
             },

@@ -19,12 +19,12 @@ use Rattle.ftd_kept.proofs.KeptRuns.{runs_are}
 use Rattle.ftd_entries.proofs.QuarterDays.{early_quarter}
 use Rattle.ftd_kept.proofs.lists.runs.Goals as goal
 
-pub returns-in-Some : goal.returns-in-Some
-returns-in-Some g c = record {
+pub returns-in-Err : goal.returns-in-Err
+returns-in-Err g c = record {
   call = served_looked (Question (questions.Kept (kept.Runs c.args.name.now c.args.quarter)))
-      c.in-Some.answer (then_reads c.in_ok-account.account
+      c.in-Err.answer (then_reads c.in_ok-account.account
       (KnowsAccount c.args.name.now) c.in_ok-account.ensures.call c.in_ok-found.ensures.call
-      (λ t knows lists. knows)) (λ t s stands sound knows. decided _ s c.in-Some.answer _
+      (λ t knows lists. knows)) (λ t s stands sound knows. decided _ s c.in-Err.answer _
       (ap (λ a. first_of (kept_in_quarter_checks c.args.name.now c.args.quarter a))
       (knows s stands) ∙ search rules));
 }

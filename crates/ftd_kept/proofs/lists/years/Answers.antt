@@ -13,18 +13,18 @@ use Rattle.ftd_entries.proofs.Serving.{served_looked}
 use Rattle.ftd_kept.specs.Kept.{KnowsYears}
 use Rattle.ftd_kept.proofs.lists.years.Goals as goal
 
-pub returns-in-Some : goal.returns-in-Some
-returns-in-Some g c = record {
-  call = served_looked (Question (questions.Kept (kept.Years c.args.name.now))) c.in-Some.answer
+pub returns-in-Err : goal.returns-in-Err
+returns-in-Err g c = record {
+  call = served_looked (Question (questions.Kept (kept.Years c.args.name.now))) c.in-Err.answer
       c.in_ok-found.ensures.call (λ t s stands sound knows.
-      decided _ s c.in-Some.answer _ (ap (λ a. first_of (kept_of_checks c.args.name.now a))
+      decided _ s c.in-Err.answer _ (ap (λ a. first_of (kept_of_checks c.args.name.now a))
       (knows s stands) ∙ search rules));
 }
 
 pub returns : goal.returns
 returns g c =
     let name = c.args.name.now in
-    let account = c.in-Some-found.account in
+    let account = c.in-Ok-kept_of_check.account in
     let listed = c.in_ok-rows.rows in
     let answer = kept_answer (rows.Years c.in-Ok.owner c.from_vec.result) in
     record {
@@ -33,7 +33,8 @@ returns g c =
           (λ a t. KnowsAccount name a t × KnowsYears name account listed.items t)
           c.in_ok-found.ensures.call c.in_ok-rows.ensures.call (λ t knows years. (knows, years)))
           (λ t s stands sound knows.
-          (let years = knows.1 s stands sound (knows.0 s stands ∙ c.in-Some-found.is) in
+          (let years = knows.1 s stands sound
+          (knows.0 s stands ∙ c.in-Ok-kept_of_check.ensures.1) in
           passed _ s answer s _
           (ap (λ a. first_of (kept_of_checks name a)) (knows.0 s stands) ∙ search rules) (
             refl,

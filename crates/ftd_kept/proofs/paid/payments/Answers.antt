@@ -21,13 +21,13 @@ use Rattle.ftd_entries.proofs.QuarterDays.{early_quarter}
 use Rattle.ftd_entries.proofs.OwedRows.{obligations_known}
 use Rattle.ftd_kept.proofs.paid.payments.Goals as goal
 
-pub returns-in-Some : goal.returns-in-Some
-returns-in-Some g c = record {
+pub returns-in-Err : goal.returns-in-Err
+returns-in-Err g c = record {
   call = served_looked (Question (questions.Kept (kept.Payments c.args.name.now c.args.quarter)))
-      c.in-Some.answer (three_told c.in_ok-account.ensures.call
+      c.in-Err.answer (three_told c.in_ok-account.ensures.call
       c.in_ok-found.ensures.call c.in_ok-owed.ensures.call c.in_ok-account.account
       (KnowsAccount c.args.name.now) (λ t knows lists owes. knows))
-      (λ t s stands sound knows. decided _ s c.in-Some.answer _
+      (λ t s stands sound knows. decided _ s c.in-Err.answer _
       (ap (λ a. first_of (kept_in_quarter_checks c.args.name.now c.args.quarter a))
       (knows s stands) ∙ search rules));
 }

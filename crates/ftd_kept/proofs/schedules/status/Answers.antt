@@ -9,13 +9,13 @@ use Rattle.ftd_kept.specs.Schedules.{AreScheduled, IsStatusBy}
 use Rattle.ftd_kept.proofs.Scheduling.{account_and_lines, status_decided, status_told}
 use Rattle.ftd_kept.proofs.schedules.status.Goals as goal
 
-pub returns-in-Some : goal.returns-in-Some
-returns-in-Some g c = record {
-  call = served_looked (Question (Status c.args.name.now c.args.day)) c.in-Some.answer
+pub returns-in-Err : goal.returns-in-Err
+returns-in-Err g c = record {
+  call = served_looked (Question (Status c.args.name.now c.args.day)) c.in-Err.answer
       (account_and_lines c.args.name.now c.in_ok-account.ensures.call c.in_ok-lines.ensures.call)
       (λ t s stands sound knows. status_decided c.args.name.now c.args.day
       c.in_ok-account.account c.in_ok-lines.lines.items t s stands (knows s stands).0
-      (knows s stands).1 c.in-Some.answer (search rules));
+      (knows s stands).1 c.in-Err.answer (search rules));
 }
 
 pub returns : goal.returns

@@ -9,11 +9,11 @@ use Rattle.ftd_kept.proofs.UnappliedKnown.{unapplied_answered, unapplied_refused
 use Rattle.ftd_kept.proofs.UnappliedOrdered.{unapplied_in_order}
 use Rattle.ftd_kept.proofs.unapplied_rows.unapplied.Goals as goal
 
-pub returns-in-Some : goal.returns-in-Some
-returns-in-Some g c = record {
-  call = served_looked (Question (asked.Unapplied c.args.until)) c.in-Some.answer
+pub returns-in-Err : goal.returns-in-Err
+returns-in-Err g c = record {
+  call = served_looked (Question (asked.Unapplied c.args.until)) c.in-Err.answer
       c.in_ok-rows.ensures.call
-      (λ t s stands sound knows. unapplied_refused c.args.until c.in-Some.answer (search rules) s);
+      (λ t s stands sound knows. unapplied_refused c.args.until c.in-Err.answer (search rules) s);
 }
 
 pub returns : goal.returns

@@ -6,12 +6,12 @@ use Rattle.ftd_entries.proofs.Serving.{served_looked, served_turned}
 use Rattle.ftd_posting.proofs.AddedDay.{added_decided, added_done}
 use Rattle.ftd_posting.proofs.adding.add_holiday.Goals as goal
 
-pub returns-in-Some : goal.returns-in-Some
-returns-in-Some g c = record {
+pub returns-in-Err : goal.returns-in-Err
+returns-in-Err g c = record {
   call = served_looked (Enter (entry.Holiday c.args.day)) _
       (both_read c.in_ok-calendar.ensures.call c.in_ok-added.ensures.call)
       (λ t s stands sound knows. added_decided c.args.day _ c.year-year.ensures
-      c.in_ok-calendar.calendar c.in_ok-added.added c.in-Some.answer (search rules) t s stands sound
+      c.in_ok-calendar.calendar c.in_ok-added.added c.in-Err.answer (search rules) t s stands sound
       knows.0 knows.1);
 }
 

@@ -5,11 +5,11 @@ use Rattle.ftd_entries.proofs.Serving.{served_looked, served_turned}
 use Rattle.ftd_posting.proofs.ChangedDay.{changed_decided, changed_done}
 use Rattle.ftd_posting.proofs.changing.change_holiday.Goals as goal
 
-pub returns-in-Some : goal.returns-in-Some
-returns-in-Some g c = record {
+pub returns-in-Err : goal.returns-in-Err
+returns-in-Err g c = record {
   call = served_looked (Correct c.args.number (correction.Holiday c.args.day c.args.is_holiday)) _
       c.in_ok-before.ensures.call (changed_decided c.args.day c.args.number c.args.is_holiday
-      c.in_ok-before.before c.in-Some.answer (search rules));
+      c.in_ok-before.before c.in-Err.answer (search rules));
 }
 
 pub returns : goal.returns

@@ -1,12 +1,11 @@
 use Rattle.std.proofs.Common.{◌∙◌, arith}
 use Rattle.std.proofs.lemmas.Result.{err_from_is_err_and}
-use Rattle.ftd_csv.specs.Records.{record_rows, run_records}
 use Rattle.ftd_csv.specs.declared.sheets.Sheet.TheVariants.{Runs}
-use Rattle.ftd_csv.proofs.Left.{runs_first}
+use Rattle.ftd_program.specs.Plain.{run_records}
 use Rattle.ftd_program.specs.Taking.{runs_of}
 use Rattle.ftd_program.proofs.Sums.{calendar_fault_of, kept_small, same_sums, stops_fault, sums_few}
 use Rattle.ftd_program.proofs.Sums.{sums_in_year, sums_small, text_fails}
-use Rattle.ftd_program.proofs.TakingFacts.{counted_of}
+use Rattle.ftd_program.proofs.TakingFacts.{counted_of, runs_first}
 use Rattle.ftd_program.proofs.deposits.plain.Goals as goal
 
 pub returns-in_err-calendar : goal.returns-in_err-calendar
@@ -34,7 +33,7 @@ returns-in_err-runs c =
 
 pub day_sums-requires : goal.day_sums-requires
 day_sums-requires c =
-    kept_small c.args.account.now c.args.year (record_rows c.args.csv.now) c.in_ok-runs.runs.entries
+    kept_small c.args.account.now c.args.year c.args.csv.now c.in_ok-runs.runs.entries
     (rw (runs_first Runs c.args.csv.now _ c.in_ok-records.ensures) at c.in_ok-runs.ensures.1)
 
 pub deposits-requires-clause-few : goal.deposits-requires-clause-few
@@ -43,7 +42,7 @@ deposits-requires-clause-few c = sums_few c.in_ok-runs.runs.entries c.deref.resu
 
 pub deposits-requires-clause-in_year : goal.deposits-requires-clause-in_year
 deposits-requires-clause-in_year c =
-    sums_in_year c.args.account.now c.args.year (record_rows c.args.csv.now)
+    sums_in_year c.args.account.now c.args.year c.args.csv.now
     c.in_ok-runs.runs.entries
     c.deref.result.now (rw (runs_first Runs c.args.csv.now _ c.in_ok-records.ensures)
     at c.in_ok-runs.ensures.1)
@@ -51,7 +50,7 @@ deposits-requires-clause-in_year c =
 
 pub deposits-requires-clause-small : goal.deposits-requires-clause-small
 deposits-requires-clause-small c =
-    sums_small c.args.account.now c.args.year (record_rows c.args.csv.now) c.in_ok-runs.runs.entries
+    sums_small c.args.account.now c.args.year c.args.csv.now c.in_ok-runs.runs.entries
     c.deref.result.now (rw (runs_first Runs c.args.csv.now _ c.in_ok-records.ensures)
     at c.in_ok-runs.ensures.1)
     (c.deref.ensures.value ∙ c.in_ok-sums.ensures)

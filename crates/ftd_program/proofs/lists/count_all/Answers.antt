@@ -47,9 +47,9 @@ loop-place-preserved c =
             some = λ records is.
                 (let next = next_of records ps i d (are ∙ is.places) c.loop-place-test.true in
                 posted_more records i _ next w.in-None.is _ _ _ _ _ _ _ (before.some records is) first
-                (λ it at. w.count.ensures.counts it (first_post _ it next.at
-                (drop (i + 1) records) _ _ _ at (next_posts records i _ _ next
-                (before.posts records is)) post)));
+                (λ it at. rw (← first_post _ it next.at (drop (i + 1) records) _ _ _ at
+                (next_posts records i _ _ next (before.posts records is)) post)
+                w.count.ensures.counts));
             posts = λ records is.
                 (let next = next_of records ps i d (are ∙ is.places) c.loop-place-test.true in
                 let (it, at) = is_entry next.at _ next.kept w.in-None.is in

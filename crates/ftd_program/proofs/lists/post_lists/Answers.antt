@@ -2,7 +2,7 @@ use Rattle.std.proofs.Common.{◌≡◌, ◌++◌, [], refl, ◌∙◌, arith, s
 use Rattle.std.proofs.Common.{append_assoc, length-append, subst, ℕ}
 use Rattle.std.proofs.lemmas.List.{append-nil}
 use Rattle.ftd_csv.specs.Places.{records_left}
-use Rattle.ftd_csv.specs.Records.{SaidEntry}
+use Rattle.ftd_csv.specs.declared.entries.Content.{Content}
 use Rattle.ftd_desk.specs.Desks.{IsStopped, held}
 use Rattle.ftd_program.specs.Imports.{Posts}
 use Rattle.ftd_program.proofs.Again.{stops_later, stops_unread}
@@ -40,7 +40,7 @@ pub returns-in-Err : goal.returns-in-Err
 returns-in-Err g c =
     let so_far = c.loop-told.invariant.passed in
     let takes = c.in-Ok.ensures in
-    let split = so_far.1 ∙ ap (λ (rs : List (ℕ × SaidEntry)). so_far.0 ++ rs) takes.split in
+    let split = so_far.1 ∙ ap (λ (rs : List (ℕ × Content)). so_far.0 ++ rs) takes.split in
     stops_later (IsStopped c.post_list.new.desk) (held g.S.Store c.args.desk.now)
     (held g.S.Store c.loop-told.desk) (held g.S.Store c.post_list.new.desk) so_far.0
     takes.taken (records_left c.read_list.new.records) (records_left c.args.records.now)
@@ -52,7 +52,7 @@ loop-told-preserved g c =
     let so_far = c.loop-told.invariant.passed in
     let takes = c.in-Ok.ensures in
     let left = records_left c.read_list.new.records in
-    let split = so_far.1 ∙ ap (λ (rs : List (ℕ × SaidEntry)). so_far.0 ++ rs) takes.split in
+    let split = so_far.1 ∙ ap (λ (rs : List (ℕ × Content)). so_far.0 ++ rs) takes.split in
     let long = length-append so_far.0 takes.taken in
     let told = so_far.3 in
     let counted = takes.counted in
@@ -81,6 +81,6 @@ returns g c =
     let none : records_left c.loop-told.records ≡ [] =
     nothing (records_left c.loop-told.records) (omega arith) in
     let whole : records_left c.args.records.now ≡ so_far.0 = so_far.1
-    ∙ ap (λ (rs : List (ℕ × SaidEntry)). so_far.0 ++ rs) none ∙ append-nil so_far.0 in
-    subst (λ (rs : List (ℕ × SaidEntry)). Posts (held g.S.Store c.args.desk.now)
+    ∙ ap (λ (rs : List (ℕ × Content)). so_far.0 ++ rs) none ∙ append-nil so_far.0 in
+    subst (λ (rs : List (ℕ × Content)). Posts (held g.S.Store c.args.desk.now)
     (held g.S.Store c.loop-told.desk) rs c.args.done.now c.loop-told.done) (sym whole) so_far.2

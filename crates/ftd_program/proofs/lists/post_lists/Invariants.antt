@@ -1,6 +1,6 @@
 use Rattle.std.proofs.Common.{◌≡◌, ◌≤◌, ◌+◌, ◌-◌, ◌++◌, ℕ, List, length}
 use Rattle.ftd_csv.specs.Places.{CanAdvance, records_left}
-use Rattle.ftd_csv.specs.Records.{SaidEntry}
+use Rattle.ftd_csv.specs.declared.entries.Content.{Content}
 use Rattle.ftd_desk.specs.Desks.{held}
 use Rattle.ftd_program.specs.Outcomes.{tally}
 use Rattle.ftd_program.specs.Imports.{Posts}
@@ -10,7 +10,7 @@ use Rattle.ftd_program.proofs.lists.post_lists.Given as goal
 abbrev pub invariant-loop-told : goal.invariant-loop-told
 invariant-loop-told g l = record {
   can : CanAdvance l.records;
-  passed : (passed : List (ℕ × SaidEntry)) × (records_left l.fn.records ≡ passed ++ records_left
+  passed : (passed : List (ℕ × Content)) × (records_left l.fn.records ≡ passed ++ records_left
       l.records)
       × Posts (held g.S.Store l.fn.desk) (held g.S.Store l.desk) passed l.fn.done l.done
       × (l.told ≡ length passed);

@@ -1,6 +1,6 @@
 use Rattle.std.proofs.Common.{◌+◌, ◌∷◌, [], ◌∙◌, None, arith, subst, sym, take}
 use Rattle.std.proofs.Common.{drop, List, ℕ}
-use Rattle.ftd_csv.specs.Records.{SaidEntry}
+use Rattle.ftd_csv.specs.declared.entries.Content.{Content}
 use Rattle.ftd_desk.specs.Desks.{IsStopped, held}
 use Rattle.ftd_program.specs.Imports.{Posts}
 use Rattle.ftd_program.specs.declared.reading.Place.{Place}
@@ -44,7 +44,7 @@ loop-place-preserved g c =
       posts = λ records is.
           let next = next_of records ps i d (c.as_slice-places.ensures.value ∙ is.places)
           c.loop-place-test.true in
-          subst (λ (rs : List (ℕ × SaidEntry)). Posts before after rs c.args.done.now
+          subst (λ (rs : List (ℕ × Content)). Posts before after rs c.args.done.now
           c.post_record.new.done) (sym next.more)
           (posts_then before between after (take i records) (next.at ∷ []) c.args.done.now
           c.loop-place.done c.post_record.new.done (c.loop-place.invariant.posts records is)

@@ -1,5 +1,5 @@
 use Rattle.std.proofs.Common.{◌≡◌, ◌∷◌, [], refl, sym, subst, rules, ℕ}
-use Rattle.ftd_csv.specs.Records.{SaidEntry}
+use Rattle.ftd_csv.specs.declared.entries.Content.{Content}
 use Rattle.ftd_desk.specs.Desks.{IsStopped, held}
 use Rattle.ftd_program.specs.Imports.{Posts}
 use Rattle.ftd_program.specs.declared.summary.Summary.{Summary}
@@ -17,7 +17,7 @@ returns-in-Some-clause-posts g c =
     c.in-Ok.ensures.items in
     let before = held g.S.Store c.args.desk.now in
     λ at later kept posts.
-    subst (λ (x : ℕ × SaidEntry). Posts before before (x ∷ []) c.args.done.now c.skip.new.self)
+    subst (λ (x : ℕ × Content). Posts before before (x ∷ []) c.args.done.now c.skip.new.self)
     (sym (is_malformed at c.args.place.now c.in-Some.field kept c.in-Some.is))
     (skips_one before c.args.place.now.number c.in-Some.field
     c.args.done.now c.skip.new.self (counts_then _ _ _ _ _ room c.skip.ensures.counts))
@@ -30,13 +30,13 @@ returns-in-Ok-post_entry-clause-posts g c =
     let first : c.args.posts.now ≡ c.unwrap.result.0.now ∷ c.unwrap.result.1.now = search rules in
     λ at later kept posts.
     let (it, is) = is_entry at c.args.place.now kept c.in-None.is in
-    let post = first_post _ it at later _ _ _ is posts first in
-    rw is (posts_same (held g.S.Store c.args.desk.now) (held g.S.Store c.post_entry.new.desk) _
-    c.args.done.now q c.post_entry.new.done room (c.in-Ok-post_entry.ensures.posts it post))
+    rw (is, ← first_post _ it at later _ _ _ is posts first)
+    (posts_same (held g.S.Store c.args.desk.now) (held g.S.Store c.post_entry.new.desk) _
+    c.args.done.now q c.post_entry.new.done room c.in-Ok-post_entry.ensures.posts)
 
 pub returns-in-Err-clause-stops : goal.returns-in-Err-clause-stops
 returns-in-Err-clause-stops g c =
     let first : c.args.posts.now ≡ c.unwrap.result.0.now ∷ c.unwrap.result.1.now = search rules in
     λ at later kept posts.
     let (it, is) = is_entry at c.args.place.now kept c.in-None.is in
-    rw is (c.in-Err.ensures.stops it (first_post _ it at later _ _ _ is posts first))
+    rw (is, ← first_post _ it at later _ _ _ is posts first) c.in-Err.ensures.stops

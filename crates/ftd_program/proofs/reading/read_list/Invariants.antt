@@ -1,6 +1,6 @@
 use Rattle.std.proofs.Common.{◌≡◌, ◌≤◌, ◌+◌, ◌++◌, ℕ, List, length}
 use Rattle.ftd_csv.specs.Places.{CanAdvance, records_left, rows_after}
-use Rattle.ftd_csv.specs.Records.{SaidEntry}
+use Rattle.ftd_csv.specs.declared.entries.Content.{Content}
 use Rattle.ftd_program.specs.Lists.{IsListOf}
 use Rattle.ftd_program.proofs.reading.read_list.Given as goal
 
@@ -9,6 +9,6 @@ abbrev pub invariant-loop : goal.invariant-loop
 invariant-loop l = record {
   can : CanAdvance l.records;
   there : l.count ≤ l.counter + length (rows_after l.records);
-  taken : (taken : List (ℕ × SaidEntry)) × (records_left l.fn.records ≡ taken ++ records_left
+  taken : (taken : List (ℕ × Content)) × (records_left l.fn.records ≡ taken ++ records_left
       l.records) × (length taken ≡ l.counter) × IsListOf taken l.list;
 }

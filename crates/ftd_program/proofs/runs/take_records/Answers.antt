@@ -1,7 +1,7 @@
 use Rattle.std.proofs.lemmas.Result.{err_from_is_err_and}
-use Rattle.ftd_csv.specs.Places.{runs_left}
-use Rattle.ftd_csv.proofs.Left.{runs_next}
-use Rattle.ftd_program.proofs.TakingFacts.{taken_first, taken_all, taken_next, taken_stops}
+use Rattle.ftd_program.specs.Taking.{runs_left}
+use Rattle.ftd_program.proofs.TakingFacts.{runs_next, taken_all, taken_first, taken_next}
+use Rattle.ftd_program.proofs.TakingFacts.{taken_stops}
 use Rattle.ftd_program.proofs.runs.take_records.Goals as goal
 
 pub loop-runs-init : goal.loop-runs-init
@@ -12,26 +12,26 @@ loop-runs-init c = record {
       (taken_first c.args.account.now c.args.year (runs_left c.args.records.now));
 }
 
-pub loop-runs-preserved : goal.loop-runs-preserved
-loop-runs-preserved c =
+pub loop-runs-preserved-in_ok-take_content-6 : goal.loop-runs-preserved-in_ok-take_content-6
+loop-runs-preserved-in_ok-take_content-6 c =
     let next = rw c.if-branch.true at c.in_ok-advance.ensures in
     let taken = rw (runs_next _ _ next, ← next.number) at c.loop-runs.invariant.taken in
     record {
       can = next.can;
-      ordered = c.take_record.ensures.ordered;
+      ordered = c.take_content.ensures.ordered;
       taken = taken_next c.args.account.now c.args.year _ _ _ _ _ _ c.loop-runs.invariant.ordered
-          taken c.in_ok-take_record.ensures.takes;
+          taken (rw c.in_ok-content.ensures at c.in_ok-take_content.ensures.takes);
     }
 
-pub returns-in_err-take_record : goal.returns-in_err-take_record
-returns-in_err-take_record c =
+pub returns-in_err-take_content : goal.returns-in_err-take_content
+returns-in_err-take_content c =
     let next = rw c.if-branch.true at c.in_ok-advance.ensures in
     let taken = rw (runs_next _ _ next, ← next.number) at c.loop-runs.invariant.taken in
-    let p = err_from_is_err_and c.from_residual-in_err-take_record.result
-    c.from_residual-in_err-take_record.ensures.1 in
+    let p = err_from_is_err_and c.from_residual-in_err-take_content.result
+    c.from_residual-in_err-take_content.ensures.1 in
     rw (p.1, p.2)
     (taken_stops c.args.account.now c.args.year _ _ _ _ _ _ c.loop-runs.invariant.ordered taken
-    c.in_err-take_record.ensures.takes)
+    (rw (c.in_ok-content.ensures, c.number.ensures) at c.in_err-take_content.ensures.takes))
 
 pub returns : goal.returns
 returns c =

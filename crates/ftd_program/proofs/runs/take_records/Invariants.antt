@@ -1,8 +1,8 @@
 use Rattle.std.proofs.Common.{◌+◌, length}
 use Rattle.std.specs.BTreeMap.{IsOrdered}
 use Rattle.std.specs.Ordering.{nat_cmp}
-use Rattle.ftd_csv.specs.Places.{CanAdvance, number_of, rows_after, runs_left}
-use Rattle.ftd_program.specs.Taking.{HasTaken}
+use Rattle.ftd_csv.specs.Places.{CanAdvance, number_of, rows_after}
+use Rattle.ftd_program.specs.Taking.{HasTaken, runs_left}
 use Rattle.ftd_program.proofs.runs.take_records.Given as goal
 
 -- the records up to the one at which the reader stands are taken

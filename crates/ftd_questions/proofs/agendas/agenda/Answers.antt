@@ -7,15 +7,15 @@ use Rattle.ftd_entries.proofs.Serving.{served_looked}
 use Rattle.ftd_questions.proofs.AgendaTold.{agenda_answered, agenda_refused}
 use Rattle.ftd_questions.proofs.agendas.agenda.Goals as goal
 
-pub returns-in-Some : goal.returns-in-Some
-returns-in-Some g c =
+pub returns-in-Err : goal.returns-in-Err
+returns-in-Err g c =
     let from = c.args.from in
     let to = c.args.to in
     let as_of = c.args.as_of in
     record {
-      call = served_looked (Question (asked.Agenda from to as_of)) c.in-Some.answer
+      call = served_looked (Question (asked.Agenda from to as_of)) c.in-Err.answer
           c.in_ok-rows.ensures.call
-          (λ t s stands sound knows. agenda_refused from to as_of c.in-Some.answer (search rules)
+          (λ t s stands sound knows. agenda_refused from to as_of c.in-Err.answer (search rules)
           s);
     }
 
@@ -33,8 +33,8 @@ returns-in-Ok g c =
           c.in-Ok.rows.items c.in-Ok.ensures.same c.in-Ok.ensures.in_order));
     }
 
-pub returns-in-Err : goal.returns-in-Err
-returns-in-Err g c = record {
+pub returns-in-Err-by_due_date : goal.returns-in-Err-by_due_date
+returns-in-Err-by_due_date g c = record {
   call = gave_up_after c.in_ok-rows.ensures.call.frame c.give_up.ensures.frame
       c.give_up.ensures.fails;
 }

@@ -8,13 +8,13 @@ use Rattle.ftd_entries.proofs.Serving.{served_looked}
 use Rattle.ftd_questions.proofs.AgendaTold.{owed_answered, owed_refused}
 use Rattle.ftd_questions.proofs.agendas.owed.Goals as goal
 
-pub returns-in-Some : goal.returns-in-Some
-returns-in-Some g c =
+pub returns-in-Err : goal.returns-in-Err
+returns-in-Err g c =
     let until = c.args.until in
     let as_of = c.args.as_of in
     record {
-      call = served_looked (Question (Owed until as_of)) c.in-Some.answer c.in_ok-rows.ensures.call
-          (λ t s stands sound knows. owed_refused until as_of c.in-Some.answer (search rules) s);
+      call = served_looked (Question (Owed until as_of)) c.in-Err.answer c.in_ok-rows.ensures.call
+          (λ t s stands sound knows. owed_refused until as_of c.in-Err.answer (search rules) s);
     }
 
 pub returns-in-Ok : goal.returns-in-Ok
@@ -32,8 +32,8 @@ returns-in-Ok g c =
           c.in-Ok.ensures.in_order));
     }
 
-pub returns-in-Err : goal.returns-in-Err
-returns-in-Err g c = record {
+pub returns-in-Err-by_due_date : goal.returns-in-Err-by_due_date
+returns-in-Err-by_due_date g c = record {
   call = gave_up_after c.in_ok-rows.ensures.call.frame c.give_up.ensures.frame
       c.give_up.ensures.fails;
 }

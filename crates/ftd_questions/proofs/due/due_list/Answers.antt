@@ -16,13 +16,13 @@ use Rattle.ftd_questions.proofs.DueTold.{checks, due_decided, due_told}
 use Rattle.ftd_questions.proofs.Shown.{due_list_refuses, shown_by, told_list}
 use Rattle.ftd_questions.proofs.due.due_list.Goals as goal
 
-pub returns-in-Some : goal.returns-in-Some
-returns-in-Some g c =
+pub returns-in-Err : goal.returns-in-Err
+returns-in-Err g c =
     let name = c.args.name.now in
     let quarter = c.args.quarter in
     let as_of = c.args.as_of in
     let known = c.in_ok-before.before in
-    let answer = c.in-Some.answer in
+    let answer = c.in-Err.answer in
     record {
       call = served_looked (Question (DueList name quarter as_of)) answer
           c.in_ok-before.ensures.call (due_decided name quarter as_of known answer (search rules));
@@ -38,7 +38,7 @@ returns g c =
     let quarter = c.args.quarter in
     let as_of = c.args.as_of in
     let known = c.in_ok-before.before in
-    let account = c.in-Some-account.account in
+    let account = c.in-Ok-checked.account in
     let given = c.in_ok-holidays.holidays in
     let found = c.in_ok-found.found in
     let rows = found.rows in
@@ -59,7 +59,7 @@ returns g c =
           subst (λ n. Step s (Question (DueList name quarter as_of))
           (due_answer n quarter as_of c.from_vec.result) s) (sym c.in-Ok.ensures)
           (rw (sym c.from_vec.ensures) at
-          (due_told name quarter as_of known account rows.items c.in-Some-account.is passed t s
+          (due_told name quarter as_of known account rows.items c.in-Ok-checked.ensures.1 passed t s
           stands sound (knows.0, knows.1.0.0))));
       shows = shown_by g.S.Store c.args.tx.now c.rows_of_quarter.new.tx found
           (due_answer owner quarter as_of c.from_vec.result) (DueList name quarter as_of) _ read

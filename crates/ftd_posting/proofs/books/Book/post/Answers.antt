@@ -6,10 +6,10 @@ use Rattle.ftd_posting.proofs.books.Book.post.Goals as goal
 use Rattle.ftd_posting.proofs.books.Book.post.Goals.{then-not-is_new+in_ok-kept+in_default}
 use Rattle.ftd_posting.proofs.books.Book.post.Goals.{else-not-is_new}
 
-pub returns-in-Some-clause-call : goal.returns-in-Some-clause-call
-returns-in-Some-clause-call g c =
+pub returns-in-Err-clause-call : goal.returns-in-Err-clause-call
+returns-in-Err-clause-call g c =
     looked_by g.S.Store c.args.name.now c.args.number c.args.run c.args.count c.args.self.now
-    c.in_ok-kept.kept c.args.tx.now c.run.new.self c.in-Some.answer
+    c.in_ok-kept.kept c.args.tx.now c.run.new.self c.in-Err.answer
     (search rules) c.in_ok-kept.ensures.call
 
 pub returns-clause-call : goal.returns-clause-call

@@ -17,7 +17,7 @@ returns-clause-call g c =
     let account = c.in-Some.account in
     let ledger = c.in_ok-ledger.ledger in
     let told = c.in-Some-days_from.ensures in
-    let found : Reads g.S.Store c.args.tx.now c.known.new.tx (Ok (Some account))
+    let found : Reads g.S.Store c.args.tx.now c.known_account.new.tx (Ok (Some account))
     (KnowsAccount name) = rw (sym c.in-Some.is) c.in_ok-account.ensures.call in
     let opened : Reads g.S.Store c.args.tx.now c.is_open.new.tx (Ok (Some account))
     (KnowsAccount name) =

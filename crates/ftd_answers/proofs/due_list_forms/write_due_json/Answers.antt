@@ -1,6 +1,0 @@
-use Rattle.ftd_answers.specs.Dues.{due_json}
-use Rattle.ftd_answers.proofs.due_list_forms.write_due_json.Goals as goal
-
-pub returns : goal.returns
-unfolding due_json
-returns g c = rw (c.total.ensures, c.total-2.ensures) at c.write_list_with.ensures

@@ -1,6 +1,0 @@
-use Rattle.ftd_answers.specs.Fields.{object_told}
-use Rattle.ftd_answers.proofs.explanation_objects.ObjectsRowFormatRunningSum.write_row.Goals as goal
-
-pub returns : goal.returns
-unfolding object_told
-returns g c = rw c.payday_members.ensures at c.write_object.ensures

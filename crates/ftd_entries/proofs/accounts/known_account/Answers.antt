@@ -1,0 +1,11 @@
+use Rattle.ftd_store.proofs.Telling.{then_reads}
+use Rattle.ftd_entries.proofs.Corrected.{in_force_known}
+use Rattle.ftd_entries.proofs.Found.{form_read}
+use Rattle.ftd_entries.proofs.accounts.known_account.Goals as goal
+
+pub returns : goal.returns
+returns g c = rw c.joined.ensures (record {
+  call = then_reads _ _ c.in_ok-found.ensures.call c.in_ok-form.ensures.call
+      (in_force_known c.args.name.now _ _);
+  form = form_read c.args.name.now c.in_ok-found.ensures.call c.in_ok-form.ensures.call;
+})
