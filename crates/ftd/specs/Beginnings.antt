@@ -26,11 +26,7 @@ abbrev pub beginning_of_question : Question → Beginning
 beginning_of_question (question.Status name day) = Tells
 beginning_of_question (question.DueList name quarter as_of) = Tells
 beginning_of_question (question.ScheduleB name quarter) = Tells
-beginning_of_question (question.Explain name day) = Needs
-beginning_of_question (question.Agenda from to as_of) = Needs
-beginning_of_question (question.Owed until as_of) = Needs
-beginning_of_question (question.Unapplied until) = Needs
-beginning_of_question (question.Kept things) = Needs
+beginning_of_question other = Needs
 
 -- a request: a desk begins by two, and six keep their answer over a new file
 abbrev pub beginning_of_request : Request → Beginning

@@ -79,10 +79,6 @@ fn of_question(question: &Question) -> Beginning
         Question::Status { .. } | Question::DueList { .. } | Question::ScheduleB { .. } => {
             Beginning::Tells
         }
-        Question::Explain { .. }
-        | Question::Agenda { .. }
-        | Question::Owed { .. }
-        | Question::Unapplied { .. }
-        | Question::Kept(_) => Beginning::Needs,
+        _ => Beginning::Needs,
     }
 }

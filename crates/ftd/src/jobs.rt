@@ -5,7 +5,8 @@ use crate::progress::ProgressLine;
 use ftd_cli::{Job, LocalTask};
 use ftd_desk::Desk;
 use ftd_files::{
-    ProgramFault, closed, desk_of, import_input, is_new, opened, opened_copy, tell_fault, tell_made,
+    ProgramFault, close_files, desk_of, import_input, is_new, open_copy, open_database, tell_fault,
+    tell_made,
 };
 use ftd_ports::Port;
 use ftd_program::perform;
@@ -14,7 +15,7 @@ use sqlite_disk::Disk;
 use std::io;
 
 /// Tells a fault with its hint, and gives the exit status.
-pub fn told(rt: &HostRuntime, fault: ProgramFault, db: &str, input: &str) -> u8 {
+pub fn report_fault(rt: &HostRuntime, fault: ProgramFault, db: &str, input: &str) -> u8 {
     tell_fault(rt, fault, db, input);
     fault.status()
 }
@@ -58,7 +59,7 @@ fn over_files<D: Disk + Drop>(
 ) -> Result<u8, ProgramFault> {
     let mut desk = desk_of(rt, conn)?;
     let status = with_desk(rt, &mut desk, db, job, input);
-    closed(desk)?;
+    close_files(desk)?;
     Ok(status)
 }
 
@@ -82,7 +83,7 @@ fn with_original(
     job: Job,
     input: &[u8],
 ) -> Result<u8, ProgramFault> {
-    over_files(rt, opened(rt, db, wait)?, db, job, input)
+    over_files(rt, open_database(rt, db, wait)?, db, job, input)
 }
 
 /// Does the job with the desk of a copy of this file.
@@ -93,7 +94,7 @@ fn with_copy(
     job: Job,
     input: &[u8],
 ) -> Result<u8, ProgramFault> {
-    over_copy(rt, opened_copy(rt, db, wait)?, db, job, input)
+    over_copy(rt, open_copy(rt, db, wait)?, db, job, input)
 }
 
 /// Does the job with the desk of this file, and tells that the file was made, below what else is
@@ -133,10 +134,10 @@ pub fn local(rt: &HostRuntime, task: LocalTask) -> u8 {
     let LocalTask { db, wait, job } = task;
     let input = match read(rt, &job) {
         Ok(input) => input,
-        Err(fault) => return told(rt, fault, &db, input_of(&job)),
+        Err(fault) => return report_fault(rt, fault, &db, input_of(&job)),
     };
     match with_file(rt, &db, wait, job, &input) {
         Ok(status) => status,
-        Err(fault) => told(rt, fault, &db, ""),
+        Err(fault) => report_fault(rt, fault, &db, ""),
     }
 }

@@ -7,7 +7,7 @@ mod jobs;
 mod progress;
 mod server;
 
-use crate::jobs::{local, told};
+use crate::jobs::{local, report_fault};
 use crate::server::serve_file;
 use ftd_cli::{PlainTask, Task, decide};
 use ftd_files::{ProgramFault, standard_input, words};
@@ -19,7 +19,7 @@ use std::process::ExitCode;
 fn main(rt: HostRuntime) -> ExitCode {
     match run(&rt) {
         Ok(status) => ExitCode::from(status),
-        Err(fault) => ExitCode::from(told(&rt, fault, "", "")),
+        Err(fault) => ExitCode::from(report_fault(&rt, fault, "", "")),
     }
 }
 
@@ -43,7 +43,7 @@ fn done(rt: &HostRuntime, task: Task) -> u8 {
         Task::Local(task) => local(rt, task),
         Task::Serve(task) => match serve_file(rt, &task) {
             Ok(status) => status,
-            Err(fault) => told(rt, fault, &task.db, ""),
+            Err(fault) => report_fault(rt, fault, &task.db, ""),
         },
     }
 }
@@ -52,7 +52,7 @@ fn done(rt: &HostRuntime, task: Task) -> u8 {
 fn plain(rt: &HostRuntime, task: &PlainTask) -> u8 {
     let input = match standard_input(rt) {
         Ok(input) => input,
-        Err(fault) => return told(rt, fault, "", "standard input"),
+        Err(fault) => return report_fault(rt, fault, "", "standard input"),
     };
     let (out, err) = (Port::new(io::writer(rt)), Port::new(rt.stderr()));
     print_plain(rt.alloc(), task, &input, out, err).status

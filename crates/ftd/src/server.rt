@@ -2,7 +2,7 @@
 
 use ftd_cli::ServeTask;
 use ftd_desk::Desk;
-use ftd_files::{ProgramFault, closed, desk_of, is_new, opened_with_short_log, tell_made};
+use ftd_files::{ProgramFault, close_files, desk_of, is_new, open_with_short_log, tell_made};
 use ftd_ports::Port;
 use ftd_server::{Limits, announce, serve_on};
 use sqlite::{Alter, Connection, FileStore};
@@ -13,14 +13,14 @@ use std::net::TcpListener;
 /// For how many seconds at least a server tries to open its file again.
 const REOPENING: u32 = 10;
 
-/// Serves so many connections of this machine, one after the other. If its store fails, the file
-/// is closed, and opened again for the next connection. `NotClosed` if it can't be closed at the end.
+/// Serves so many connections of this machine, one after the other. If its store fails, the file is
+/// closed, and opened again for the next connection. `NotClosed` if it can't be closed at the end.
 pub fn serve_file(rt: &HostRuntime, task: &ServeTask) -> Result<u8, ProgramFault> {
     let Ok(listener) = TcpListener::bind(rt, ("127.0.0.1", task.port)) else {
         return Err(ProgramFault::Net);
     };
     let is_new = is_new(rt, &task.db)?;
-    let conn = opened_with_short_log(rt, &task.db, task.wait)?;
+    let conn = open_with_short_log(rt, &task.db, task.wait)?;
     let Some(mut taken) = serve_first(rt, task, &listener, conn, is_new)? else {
         return Ok(3);
     };
@@ -29,7 +29,7 @@ pub fn serve_file(rt: &HostRuntime, task: &ServeTask) -> Result<u8, ProgramFault
         if taken >= task.connections {
             break;
         }
-        let conn = opened_with_short_log(rt, &task.db, task.wait.max(REOPENING))?;
+        let conn = open_with_short_log(rt, &task.db, task.wait.max(REOPENING))?;
         taken = serve_again(rt, task, &listener, taken, conn)?;
     }
     Ok(0)
@@ -77,7 +77,7 @@ fn closed_after<D: Disk + Drop>(
     desk: Desk<FileStore<D>>,
     is_last: bool,
 ) -> Result<(), ProgramFault> {
-    match closed(desk) {
+    match close_files(desk) {
         Err(fault) if is_last => Err(fault),
         Ok(()) | Err(_) => Ok(()),
     }

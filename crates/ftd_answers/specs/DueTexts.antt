@@ -1,5 +1,6 @@
 -- A due list that is written row by row; its text begins with its first row.
-use Rattle.std.specs.Prelude.{◌≡◌, ◌⊎◌, ◌<◌, ◌≤◌, ℕ, ◌+◌, Bool, true, false, if◌then◌else◌, List, []}
+use Rattle.std.specs.Prelude.{◌≡◌, ◌⊎◌, ◌<◌, ◌≤◌, ℕ, ◌+◌}
+use Rattle.std.specs.Prelude.{Bool, true, false, if◌then◌else◌, List, []}
 use Rattle.std.specs.Prelude.{◌∷◌, ◌++◌, Option}
 use Rattle.std.specs.Io.KnownBytes.{Appends}
 use Rattle.std.specs.List.{flat_map, sum_by}
@@ -72,9 +73,9 @@ pub record BreaksIn {W : Type 0} (taken : W → Option (List ℕ)) (failed : W �
   pub reason : (failed (writer_of after) ≡ true)
       ⊎ (amounts_end ≤ sum_by amount_of rows + amount_of row)
 
--- the text failed at a row: a prefix of what is written for it was written, since the writer failed,
--- since the total would come to the bound, or since the text had failed before, and then nothing
--- changes any more
+-- the text failed at a row: a prefix of what is written for it was written, since the writer
+-- failed, since the total would come to the bound, or since the text had failed before, and then
+-- nothing changes any more
 pub record BreaksAt {W : Type 0} (taken : W → Option (List ℕ)) (failed : W → Bool)
     (before : DueText W) (row : DueRow) (after : DueText W) : Type 0 where
   pub fails : has_failed after ≡ true

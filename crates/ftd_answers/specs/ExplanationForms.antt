@@ -7,7 +7,7 @@ use Rattle.ftd_rules.specs.declared.Obligation.{Obligation}
 use Rattle.ftd_rules.specs.Text.{rule_text}
 use Rattle.ftd_machine.specs.declared.explained.CountedDay.{CountedDay}
 use Rattle.ftd_machine.specs.declared.explained.Explanation.{Explanation}
-use Rattle.ftd_machine.specs.declared.facts.Explained.{Explained}
+use Rattle.ftd_machine.specs.declared.facts.ExplainedDay.{ExplainedDay}
 use Rattle.ftd_machine.specs.declared.explained.RunningSum.{RunningSum}
 use Rattle.ftd_machine.specs.declared.replies.Reason.{Reason}
 use Rattle.ftd_answers.specs.Columns.{line_end}
@@ -93,7 +93,7 @@ return_member day =
 
 -- ---- in a format: as text and as JSON; there is nothing to tell in the others
 
-abbrev pub explanation_as : Format → Explained → List ℕ
+abbrev pub explanation_as : Format → ExplainedDay → List ℕ
 explanation_as (Listed Text) x = explanation_told x.account x.day x.found
 explanation_as (Listed Csv) x = []
 explanation_as (Listed Json) x = explanation_json x.account x.day x.found

@@ -73,8 +73,8 @@ return_line day = concat (codes "RETURN " ∷ day_text day ∷ (line_end ∷ [])
 
 -- ---- the text
 
--- the obligation, and the schedule of its first day; its paydays and the days that are counted; when
--- the return is due, and the payments
+-- the obligation, and the schedule of its first day; its paydays and the days that are counted;
+-- when the return is due, and the payments
 unfoldable pub explanation_text : Explanation → List ℕ
 explanation_text e =
     obligation_line e.obligation ++ (status_text e.obligation.first e.kind e.reason

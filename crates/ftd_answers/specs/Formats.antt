@@ -3,7 +3,7 @@ use Rattle.std.specs.Prelude.{ℕ, List}
 use Rattle.ftd_machine.specs.declared.facts.Agenda.{Agenda}
 use Rattle.ftd_machine.specs.declared.facts.DueList.{DueList}
 use Rattle.ftd_machine.specs.declared.facts.LiabilityByDay.{LiabilityByDay}
-use Rattle.ftd_machine.specs.declared.facts.Owed.{Owed}
+use Rattle.ftd_machine.specs.declared.facts.OwedList.{OwedList}
 use Rattle.ftd_answers.specs.Agendas.{agenda_text, owed_text}
 use Rattle.ftd_answers.specs.DueLists.{due_text}
 use Rattle.ftd_answers.specs.SchedulesB.{b_text}
@@ -22,7 +22,7 @@ agenda_as (Listed Json) x = agenda_json x.rows
 agenda_as Calendar x = agenda_calendar x.as_of x.rows
 
 -- what is due until a day and not paid, as of a day
-abbrev pub owed_as : Format → Owed → List ℕ
+abbrev pub owed_as : Format → OwedList → List ℕ
 owed_as (Listed Text) x = owed_text x.until x.as_of x.rows
 owed_as (Listed Csv) x = agenda_csv x.rows
 owed_as (Listed Json) x = agenda_json x.rows

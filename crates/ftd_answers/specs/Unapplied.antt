@@ -3,7 +3,7 @@ use Rattle.std.specs.Prelude.{ℕ, ◌-◌, List, [], ◌∷◌, ◌++◌, codes
 use Rattle.std.specs.Fmt.{decimal}
 use Rattle.std.specs.List.{concat, flat_map, join_with_byte}
 use Rattle.ftd_days.specs.Text.{day_text}
-use Rattle.ftd_machine.specs.declared.facts.Unapplied.{Unapplied}
+use Rattle.ftd_machine.specs.declared.facts.UnappliedList.{UnappliedList}
 use Rattle.ftd_machine.specs.declared.lists.UnappliedRow.{UnappliedRow}
 use Rattle.ftd_answers.specs.Columns.{space, line_end, amount_in}
 use Rattle.ftd_answers.specs.Fields.{Field, as_cents, as_day, as_number, as_text, both, csv_of}
@@ -60,7 +60,7 @@ unapplied_json rows = json_of unapplied_fields [] rows
 
 -- ---- in a format
 
-abbrev pub unapplied_as : ListFormat → Unapplied → List ℕ
+abbrev pub unapplied_as : ListFormat → UnappliedList → List ℕ
 unapplied_as Text x = unapplied_text x.until x.rows
 unapplied_as Csv x = unapplied_csv x.rows
 unapplied_as Json x = unapplied_json x.rows

@@ -8,7 +8,7 @@ ghost use Rattle.ftd_answers.specs.Agendas.{owner_text, deposit_text, left_line}
 ghost use Rattle.ftd_answers.specs.Agendas.{lines_text};
 ghost use Rattle.ftd_answers.specs.Agendas.{agenda_text, owed_text};
 
-use crate::totals::{Left, left_of, total};
+use crate::totals::{AmountLeft, left_of, total};
 use crate::values::{amount_column, day_bytes, rule_column, total_column, verdict_name};
 use ftd_days::{Cents, Day};
 use ftd_machine::AgendaRow;
@@ -91,7 +91,7 @@ fn write_lines<W: Target>(rows: &[AgendaRow], target: &mut W) -> Result<(), Writ
     for row in rows {
         write_row(row, target)?;
     }
-    write_total(total(&Left, rows), target)
+    write_total(total(&AmountLeft, rows), target)
 }
 
 /// The spaces that follow an account in its column.

@@ -7,7 +7,7 @@ ghost use Rattle.ftd_answers.specs.Dues.{due_fields, due_json};
 
 use crate::forms::FieldName::Both;
 use crate::forms::{FieldName, Row, RowForm, write_fields, write_json};
-use crate::totals::{Amount, Left};
+use crate::totals::{Amount, AmountLeft};
 use crate::{Value, left_of, total};
 use ftd_machine::AgendaRow;
 use ftd_ports::{Target, WriteFault};
@@ -133,7 +133,7 @@ pub fn write_agenda_json<W: Target>(rows: &[AgendaRow], target: &mut W) -> Resul
     ensures { Writes result (W.taken target.old) (W.taken target.new)
         (W.failed target.new) (agenda_json rows.now) }
 {
-    let sums = [("left", Value::Sum(total(&Left, rows)))];
+    let sums = [("left", Value::Sum(total(&AmountLeft, rows)))];
     write_json("", rows, &sums, target)
 }
 
@@ -150,7 +150,7 @@ pub fn write_due_json<W: Target>(
 {
     let sums = [
         ("amount", Value::Sum(total(&Amount, rows))),
-        ("left", Value::Sum(total(&Left, rows))),
+        ("left", Value::Sum(total(&AmountLeft, rows))),
     ];
     write_json(account, rows, &sums, target)
 }

@@ -31,7 +31,7 @@ pub struct DueText<'a, W> {
 
 /// A text was not written whole. It hands the writer back, which took a prefix of the text.
 #[derive(Drop)]
-pub struct Unwritten<W> {
+pub struct UnwrittenText<W> {
     pub writer: W,
 }
 
@@ -109,7 +109,7 @@ impl<'a, W: Target> DueText<'a, W> {
     }
 
     /// Writes the last line, with the total of the amounts, and gives the writer back.
-    pub fn end(self) -> Result<W, Unwritten<W>>
+    pub fn end(self) -> Result<W, UnwrittenText<W>>
         ensures text { (start : Option (List ℕ)) (account : List ℕ) (quarter as_of : ℕ)
             (rows : List DueRow)
             → HasRows W.taken start account quarter as_of rows self.entry
@@ -127,13 +127,13 @@ impl<'a, W: Target> DueText<'a, W> {
     {
         let mut text = self;
         if text.failed {
-            return Err(Unwritten {
+            return Err(UnwrittenText {
                 writer: text.writer,
             });
         }
         match text.finish() {
             Ok(()) => Ok(text.writer),
-            Err(_) => Err(Unwritten {
+            Err(_) => Err(UnwrittenText {
                 writer: text.writer,
             }),
         }

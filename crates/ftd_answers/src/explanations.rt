@@ -16,7 +16,7 @@ use crate::rows::write_table;
 use crate::values::{amount_column, rule_column};
 use crate::{Format, ListFormat, RowFormat, day_bytes};
 use ftd_days::Day;
-use ftd_machine::{CountedDay, DayKind, Explained, Explanation, Reason, RunningSum};
+use ftd_machine::{CountedDay, DayKind, ExplainedDay, Explanation, Reason, RunningSum};
 use ftd_ports::{Target, WriteFault, write_all, write_pieces};
 use ftd_rules::{Kind, Obligation};
 use itoa::Buffer;
@@ -249,7 +249,7 @@ pub fn write_explanation<W: Target>(
 /// nowhere else.
 pub fn write_explanation_as<W: Target>(
     format: Format,
-    explained: &Explained,
+    explained: &ExplainedDay,
     target: &mut W,
 ) -> Result<(), WriteFault>
     ensures { Writes result (W.taken target.old) (W.taken target.new)

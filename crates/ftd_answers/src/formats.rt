@@ -12,7 +12,7 @@ use crate::calendars::write_agenda_calendar;
 use crate::due_rows::{write_agenda_json, write_b_json, write_due_json};
 use crate::forms::write_csv;
 use crate::{due_list, schedule_b};
-use ftd_machine::{Agenda, DueList, LiabilityByDay, Owed};
+use ftd_machine::{Agenda, DueList, LiabilityByDay, OwedList};
 use ftd_ports::{Target, WriteFault};
 use ftd_rules::AMOUNTS_END;
 
@@ -75,7 +75,7 @@ pub fn write_agenda_as<W: Target>(
 #[tactic(auto, unfolding(crate::specs::Dues::agenda_csv))]
 pub fn write_owed_as<W: Target>(
     format: Format,
-    owed: &Owed,
+    owed: &OwedList,
     target: &mut W,
 ) -> Result<(), WriteFault>
     ensures { Writes result (W.taken target.old) (W.taken target.new)

@@ -26,11 +26,11 @@ mod values;
 
 pub use crate::agendas::form_bytes;
 pub use crate::due_lists::due_list;
-pub use crate::due_texts::{DueText, Unwritten};
+pub use crate::due_texts::{DueText, UnwrittenText};
 pub use crate::facts::write_facts;
 pub use crate::fields::{Value, write_object};
 pub use crate::formats::{Format, ListFormat};
 pub use crate::liability_by_day::schedule_b;
 pub use crate::rows::{RowFormat, write_rows};
-pub use crate::totals::{Counted, left_of, total};
+pub use crate::totals::{RowAmount, left_of, total};
 pub use crate::values::{AmountText, amount_text, day_bytes, quarter_bytes, rule_name};

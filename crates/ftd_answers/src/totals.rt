@@ -12,7 +12,7 @@ use ftd_machine::AgendaRow;
 use ftd_rules::{DaySum, DueRow};
 
 /// Which amount of a row counts.
-pub trait Counted<T> {
+pub trait RowAmount<T> {
     /// The amount of a row that counts, in cents.
     ghost counted: { Self → T → ℕ };
 
@@ -27,9 +27,9 @@ pub struct Amount;
 
 /// What is left to pay: the amount less what was paid, or nothing.
 #[derive(Drop)]
-pub struct Left;
+pub struct AmountLeft;
 
-impl Counted<DueRow> for Amount {
+impl RowAmount<DueRow> for Amount {
     ghost counted = { λ counts row. amount_of row };
 
     fn cents(&self, row: &DueRow) -> Cents {
@@ -37,7 +37,7 @@ impl Counted<DueRow> for Amount {
     }
 }
 
-impl Counted<DaySum> for Amount {
+impl RowAmount<DaySum> for Amount {
     ghost counted = { λ counts sum. cents_of sum };
 
     fn cents(&self, row: &DaySum) -> Cents {
@@ -45,7 +45,7 @@ impl Counted<DaySum> for Amount {
     }
 }
 
-impl Counted<DueRow> for Left {
+impl RowAmount<DueRow> for AmountLeft {
     ghost counted = { λ counts row. left_of row };
 
     fn cents(&self, row: &DueRow) -> Cents {
@@ -53,7 +53,7 @@ impl Counted<DueRow> for Left {
     }
 }
 
-impl Counted<AgendaRow> for Left {
+impl RowAmount<AgendaRow> for AmountLeft {
     ghost counted = { λ counts row. left_cents row };
 
     fn cents(&self, row: &AgendaRow) -> Cents {
@@ -69,7 +69,7 @@ pub fn left_of(row: &DueRow) -> Cents
 }
 
 /// The amounts of the rows that count together, in cents.
-pub fn total<T, A: Counted<T>>(counts: &A, rows: &[T]) -> u128
+pub fn total<T, A: RowAmount<T>>(counts: &A, rows: &[T]) -> u128
     ensures { result ≡ sum_by (A.counted counts.now) rows.now }
 {
     let mut total = 0;

@@ -12,7 +12,7 @@ use crate::lines::write_name;
 use crate::values::amount_column;
 use crate::{ListFormat, RowFormat, Value, day_bytes, write_rows};
 use ftd_days::{Cents, Day};
-use ftd_machine::{Unapplied, UnappliedRow};
+use ftd_machine::{UnappliedList, UnappliedRow};
 use ftd_ports::{Target, WriteFault, write_all, write_pieces};
 use itoa::Buffer;
 
@@ -150,7 +150,7 @@ fn write_text<W: Target>(
 #[tactic(auto, unfolding(crate::specs::Unapplied::unapplied_csv, crate::specs::Unapplied::unapplied_json))]
 pub fn write_unapplied_as<W: Target>(
     format: ListFormat,
-    unapplied: &Unapplied,
+    unapplied: &UnappliedList,
     target: &mut W,
 ) -> Result<(), WriteFault>
     ensures { Writes result (W.taken target.old) (W.taken target.new)

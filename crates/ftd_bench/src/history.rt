@@ -7,7 +7,7 @@ ghost use Rattle.ftd_rules.specs.Liability.{cents_of};
 ghost use Rattle.ftd_rules.specs.Years.{YearsFrom, OnlyFirstCarried};
 
 use anyhow::{Context, Result, bail};
-use ftd_days::{Cents, Day, Holidays};
+use ftd_days::{Cents, Day, FIRST_YEAR, Holidays, LAST_OPEN_YEAR, LAST_YEAR};
 use ftd_rules::{AMOUNTS_END, Assessment, DaySum, Form, Kind, YearLine, assess};
 use rand_core::utils::NextWord;
 use rand_pcg::Pcg32;
@@ -117,7 +117,7 @@ fn years(
     carried: bool,
     lookbacks: &[u64],
 ) -> Result<Vec<YearLine>, AllocError>
-    requires { first + length lookbacks.now ≤ 2099 }
+    requires { first + length lookbacks.now ≤ LAST_YEAR }
     ensures years { IfOk result (λ lines. YearsFrom first lines.items) }
     ensures carried { IfOk result (λ lines. OnlyFirstCarried lines.items) }
     ensures count { IfOk result (λ lines. length lines.items ≡ length lookbacks.now) }
@@ -169,7 +169,7 @@ pub fn total_of(sums: &[DaySum]) -> Option<u64>
 }
 
 /// The obligations and the years of the account.
-pub fn assessed(alloc: Global, account: &Account, holidays: &Holidays) -> Result<Assessment> {
+pub fn assess_account(alloc: Global, account: &Account, holidays: &Holidays) -> Result<Assessment> {
     let sums = day_sums(alloc, account)?;
     of_sums(
         alloc,
@@ -192,11 +192,11 @@ pub fn of_sums(
     sums: &[DaySum],
     holidays: &Holidays,
 ) -> Result<Assessment> {
-    if first < 2001 || first > 2098 {
+    if first < FIRST_YEAR || first > LAST_OPEN_YEAR {
         bail!("years of 2001 to 2098");
     }
     let count = lookbacks.len();
-    if count > (2099 - first) as usize {
+    if count > (LAST_YEAR - first) as usize {
         bail!("years of 2001 to 2098");
     }
     let years = years(alloc, first, carried, lookbacks)?;

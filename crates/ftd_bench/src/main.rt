@@ -9,9 +9,9 @@ mod history;
 mod repair;
 mod told;
 
-use crate::history::{Account, assessed, day_at, day_sums, of_sums, random};
-use crate::repair::{repaired, replaced};
-use crate::told::told;
+use crate::history::{Account, assess_account, day_at, day_sums, of_sums, random};
+use crate::repair::{is_mended, repair_day};
+use crate::told::history_text;
 use anyhow::{Context, Result, bail, ensure};
 use ftd_days::Holidays;
 use rand_core::utils::NextWord;
@@ -24,7 +24,7 @@ use std::time::Instant;
 fn change(alloc: Global, random_numbers: &mut Pcg32) -> Result<u32> {
     let holidays = Holidays::new(alloc);
     let mut account = random(alloc, random_numbers)?;
-    let before = assessed(alloc, &account, &holidays)?;
+    let before = assess_account(alloc, &account, &holidays)?;
     let days = account.amounts.len();
     if days == 0 {
         bail!("days of the history");
@@ -38,10 +38,10 @@ fn change(alloc: Global, random_numbers: &mut Pcg32) -> Result<u32> {
     };
     ensure!(place < account.amounts.len(), "a day of the history");
     account.amounts[place] = amount;
-    let after = assessed(alloc, &account, &holidays)?;
-    let (patch, windows) = repaired(alloc, &account, before.years.as_slice(), day, &holidays)?;
+    let after = assess_account(alloc, &account, &holidays)?;
+    let (patch, windows) = repair_day(alloc, &account, before.years.as_slice(), day, &holidays)?;
     ensure!(
-        replaced(alloc, &before, &patch, &after)?,
+        is_mended(alloc, &before, &patch, &after)?,
         "a repair that differs, at {day}"
     );
     ensure!(
@@ -93,7 +93,7 @@ fn speed(rt: &HostRuntime, count: u32) -> Result<String> {
     let mut rows = 0;
     let start = Instant::now(rt)?;
     for _ in 0..count {
-        let (patch, _) = repaired(alloc, &account, lines, day, &holidays)?;
+        let (patch, _) = repair_day(alloc, &account, lines, day, &holidays)?;
         rows = patch.rows.as_slice().len();
     }
     let repairing = start.elapsed(rt)?;
@@ -116,7 +116,7 @@ fn answer(rt: &HostRuntime, words: &str, lines: &str) -> Result<String> {
     }
     if let Some(years) = words.strip_prefix("assess ") {
         let (first, count) = years.split_once(' ').context("a year and a count")?;
-        return told(rt.alloc(), first.parse()?, count.parse()?, lines);
+        return history_text(rt.alloc(), first.parse()?, count.parse()?, lines);
     }
     let Some(numbers) = words.strip_prefix("changes ") else {
         bail!("assess FIRST COUNT, changes SEED COUNT, or speed COUNT");

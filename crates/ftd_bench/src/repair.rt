@@ -20,7 +20,7 @@ fn window_sums(alloc: Global, account: &Account, window: Window) -> Result<Vec<D
 
 /// The patch after a change of the day, and how many windows it took. The lines are those before
 /// the change.
-pub fn repaired(
+pub fn repair_day(
     alloc: Global,
     account: &Account,
     lines: &[YearLine],
@@ -70,7 +70,7 @@ fn fed(
 }
 
 /// Whether the patch makes the one assessment the other.
-pub fn replaced(
+pub fn is_mended(
     alloc: Global,
     before: &Assessment,
     patch: &Patch,

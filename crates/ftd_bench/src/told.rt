@@ -36,7 +36,7 @@ fn lookbacks(alloc: Global, count: u32) -> Result<Vec<u64>> {
 }
 
 /// The obligations of so many years from `first` on with the sums of the lines, a line for each.
-pub fn told(alloc: Global, first: u32, count: u32, lines: &str) -> Result<String> {
+pub fn history_text(alloc: Global, first: u32, count: u32, lines: &str) -> Result<String> {
     let lookbacks = lookbacks(alloc, count)?;
     let sums = day_sums(alloc, lines)?;
     let holidays = Holidays::new(alloc);

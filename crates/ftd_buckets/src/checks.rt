@@ -7,7 +7,7 @@ ghost use Rattle.ftd_rules.specs.Years.{YearsFrom, year_last};
 ghost use Rattle.ftd_buckets.specs.Histories.{MayBegin, TurnsWithin};
 
 use crate::Window;
-use ftd_days::Day;
+use ftd_days::{Day, FIRST_YEAR, LAST_OPEN_YEAR, LAST_YEAR};
 use ftd_rules::year::{first_day, last_day};
 use ftd_rules::{DaySum, Kind, YearLine};
 
@@ -26,9 +26,10 @@ pub fn may_begin(lines: &[YearLine], day: Day) -> bool
 /// Whether the day is one of the year, a year of 2001 to 2098.
 fn is_in(year: u32, day: Day) -> bool
     ensures { IsTrue result
-        ↔ ((2001 ≤ year) × (year ≤ 2098) × (year_start year ≤ day) × (day ≤ year_last year)) }
+        ↔ ((FIRST_YEAR ≤ year) × (year ≤ LAST_OPEN_YEAR) × (year_start year ≤ day)
+        × (day ≤ year_last year)) }
 {
-    if year < 2001 || year > 2098 {
+    if year < FIRST_YEAR || year > LAST_OPEN_YEAR {
         return false;
     }
     first_day(year) <= day && day <= last_day(year)
@@ -37,11 +38,11 @@ fn is_in(year: u32, day: Day) -> bool
 /// Whether the lines are of the years from `year` on without a gap, none after 2098, each with its
 /// turn in its year and beside a monthly opening.
 fn follow(year: u32, lines: &[YearLine]) -> bool
-    requires { 2001 ≤ year }
+    requires { FIRST_YEAR ≤ year }
     ensures { IsTrue result ↔ (YearsFrom year lines.now × All TurnsWithin lines.now) }
 {
     match lines {
-        [] => year <= 2099,
+        [] => year <= LAST_YEAR,
         [line, later @ ..] => is_line_of(year, line) && follow(year + 1, later),
     }
 }
@@ -49,16 +50,17 @@ fn follow(year: u32, lines: &[YearLine]) -> bool
 /// Whether the line is of the year, one up to 2098, with its turn in it and beside a monthly
 /// opening.
 fn is_line_of(year: u32, line: &YearLine) -> bool
-    requires { 2001 ≤ year }
-    ensures { IsTrue result ↔ ((line.now.year ≡ year) × (year ≤ 2098) × TurnsWithin line.now) }
+    requires { FIRST_YEAR ≤ year }
+    ensures { IsTrue result
+        ↔ ((line.now.year ≡ year) × (year ≤ LAST_OPEN_YEAR) × TurnsWithin line.now) }
 {
-    line.year == year && year <= 2098 && turns_within(line)
+    line.year == year && year <= LAST_OPEN_YEAR && turns_within(line)
 }
 
 /// Whether the line's turn, if it has one, lies in its year and beside a monthly opening.
 fn turns_within(line: &YearLine) -> bool
-    requires from { 2001 ≤ line.now.year }
-    requires to { line.now.year ≤ 2098 }
+    requires from { FIRST_YEAR ≤ line.now.year }
+    requires to { line.now.year ≤ LAST_OPEN_YEAR }
     ensures { IsTrue result ↔ TurnsWithin line.now }
 {
     let Some(turn) = line.turn else {

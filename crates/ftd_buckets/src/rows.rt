@@ -11,7 +11,7 @@ ghost use Rattle.ftd_rules.specs.Private.Walk.{due_date, AreOwed, periods};
 ghost use Rattle.ftd_buckets.specs.Histories.{TurnsWithin};
 ghost use Rattle.ftd_buckets.specs.Private.Ready.{IsWhole};
 
-use ftd_days::{Day, Holidays};
+use ftd_days::{Day, FIRST_YEAR, Holidays, LAST_OPEN_YEAR};
 use ftd_rules::year::{add_days, first_semiweekly_day};
 use ftd_rules::{AMOUNTS_END, DaySum, Form, Obligation, YearLine};
 use std::alloc::AllocError;
@@ -26,8 +26,8 @@ pub fn add_rows(
     holidays: &Holidays,
     rows: &mut Vec<Obligation>,
 ) -> Result<(), AllocError>
-    requires from { 2001 ≤ line.now.year }
-    requires to { line.now.year ≤ 2098 }
+    requires from { FIRST_YEAR ≤ line.now.year }
+    requires to { line.now.year ≤ LAST_OPEN_YEAR }
     requires turn { TurnsWithin line.now }
     requires whole { IsWhole form line.now first last }
     requires rise { SumsRise first last sums.now }

@@ -13,7 +13,7 @@ ghost use Rattle.ftd_buckets.specs.Private.Turned.{IsYearChange, IsTurnNow, IsWi
 ghost use Rattle.ftd_buckets.specs.Private.Turned.{IsMonthStart};
 
 use crate::Window;
-use ftd_days::Day;
+use ftd_days::{Day, FIRST_YEAR, LAST_OPEN_YEAR};
 use ftd_rules::schedule::turn_of;
 use ftd_rules::year::first_semiweekly_day;
 use ftd_rules::{AMOUNTS_END, DaySum, YearLine};
@@ -31,8 +31,8 @@ pub enum TurnNow {
 /// What the day sums of a deposit period after the change tell of the turn, where the changed day
 /// is one of its days. The line is that before the change.
 pub fn turn_now(line: &YearLine, period: Window, sums: &[DaySum]) -> TurnNow
-    requires from { 2001 ≤ line.now.year }
-    requires to { line.now.year ≤ 2098 }
+    requires from { FIRST_YEAR ≤ line.now.year }
+    requires to { line.now.year ≤ LAST_OPEN_YEAR }
     requires turn { TurnsWithin line.now }
     requires period { (form : Form) × IsPeriod form line.now period.from period.to }
     requires rise { SumsRise period.from period.to sums.now }

@@ -11,7 +11,7 @@ use Rattle.ftd_desk.specs.Desks.{Held, Keeps}
 use Rattle.ftd_desk.specs.Opened.{Opens}
 use Rattle.ftd_http.specs.Messages.{Message}
 use Rattle.ftd_server.specs.Serving.{ServesMessages}
-use Rattle.ftd_server.specs.declared.connection.Served.{Served}
+use Rattle.ftd_server.specs.declared.connection.ServedConnection.{ServedConnection}
 use Rattle.ftd_server.specs.Tables.{AnsweredBy}
 use Rattle.ftd_c.specs.Office.{AreAnswers, IsAnswered}
 
@@ -41,7 +41,7 @@ from_nothing old new clean keeps messages text by =
     let (end, answers, later) = by.follows clean nothing keeps in (end, answers)
 
 pub are_answers : (old new : Held) (bytes unread text : List ℕ)
-    (left taken taken' : Option (List ℕ)) (served : Served) → HasCleanDisk new.db
+    (left taken taken' : Option (List ℕ)) (served : ServedConnection) → HasCleanDisk new.db
     → Keeps old nothing → left ≡ Some bytes → taken ≡ Some [] → taken' ≡ Some text
     → ServesMessages (AnsweredBy old new) left (Some unread) false taken taken' served
     → AreAnswers bytes text

@@ -2,6 +2,7 @@
 -- after 1 January 1900, as everywhere in contracts.
 use Rattle.std.specs.Prelude.{◌≡◌, ℕ, ◌+◌, ◌≤◌, ◌==◌, List, [], ◌∷◌, Option, Some, None}
 use Rattle.std.specs.Prelude.{if◌then◌else◌}
+use Rattle.ftd_days.specs.declared.limits.TheConstants.{LAST_OPEN_YEAR}
 use Rattle.ftd_days.specs.Calendar.{last_day, quarter_of, year_of}
 use Rattle.ftd_days.specs.Holidays.{MayAdd}
 use Rattle.ftd_rules.specs.declared.Form.{Form}
@@ -39,7 +40,7 @@ pub record AreCalendars (year : ℕ) (this_year next_year : List ℕ) : Type 0 w
 -- a last day that may be asked for, with the holidays of its year and of the next
 pub record IsAsked (last : ℕ) (this_year next_year : List ℕ) : Type 0 where
   pub is_day : last ≤ last_day
-  pub to : year_of last ≤ 2098
+  pub to : year_of last ≤ LAST_OPEN_YEAR
   pub calendars : AreCalendars (year_of last) this_year next_year
 
 -- the due date of a deposit for days up to the last, by the rule of a code

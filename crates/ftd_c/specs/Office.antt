@@ -4,7 +4,7 @@ use Rattle.ftd_machine.specs.State.{State, nothing}
 use Rattle.ftd_machine.specs.Runs.{Goes}
 use Rattle.ftd_http.specs.Messages.{Message}
 use Rattle.ftd_server.specs.Serving.{Answered, ServesMessages}
-use Rattle.ftd_server.specs.declared.connection.Served.{Served}
+use Rattle.ftd_server.specs.declared.connection.ServedConnection.{ServedConnection}
 
 -- what is answered where memory was refused: more than any answers have
 abbrev pub no_answers : ℕ
@@ -19,7 +19,7 @@ IsAnswered messages text = (end : State) × Answered Goes nothing end messages t
 -- machine answers so, and whose peer is never idle. What is unread comes after its end.
 pub record AreAnswers (bytes text : List ℕ) : Type 0 where
   pub unread : List ℕ
-  pub served : Served
+  pub served : ServedConnection
   pub serves : ServesMessages IsAnswered (Some bytes) (Some unread) false (Some []) (Some text)
       served
 

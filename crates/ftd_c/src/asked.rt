@@ -6,7 +6,7 @@ ghost use Rattle.ftd_days.specs.Holidays.{holidays_of};
 ghost use Rattle.ftd_c.specs.Calls.{AreCalendars, IsAsked};
 
 use crate::codes::{CallFault, day_of};
-use ftd_days::{Day, Holidays};
+use ftd_days::{Day, Holidays, LAST_OPEN_YEAR};
 use std::alloc::Global;
 
 /// The days of these numbers.
@@ -28,7 +28,7 @@ fn calendars(
     this_year: &[u32],
     next_year: &[u32],
 ) -> Result<Holidays, CallFault>
-    requires { year ≤ 2098 }
+    requires { year ≤ LAST_OPEN_YEAR }
     ensures holidays { IfOk result (λ given. holidays_of given ≡ this_year.now ++ next_year.now) }
     ensures range { IsErrOf result CallFault.OutOfRange
         → ¬ AreCalendars year this_year.now next_year.now }
@@ -40,20 +40,20 @@ fn calendars(
 }
 
 /// The last day, and the holidays of its year and of the next.
-pub fn asked(
+pub fn day_and_holidays(
     alloc: Global,
     last: u32,
     this_year: &[u32],
     next_year: &[u32],
 ) -> Result<(Day, Holidays), CallFault>
     ensures day { IfOk result (λ it. (it.0 ≡ last)) }
-    ensures to { IfOk result (λ it. year_of it.0 ≤ 2098) }
+    ensures to { IfOk result (λ it. year_of it.0 ≤ LAST_OPEN_YEAR) }
     ensures holidays { IfOk result (λ it. holidays_of it.1 ≡ this_year.now ++ next_year.now) }
     ensures range { IsErrOf result CallFault.OutOfRange
         → ¬ IsAsked last this_year.now next_year.now }
 {
     let last = day_of(last)?;
-    if last.year() > 2098 {
+    if last.year() > LAST_OPEN_YEAR {
         return Err(CallFault::OutOfRange);
     }
     let holidays = calendars(alloc, last.year(), this_year, next_year)?;

@@ -5,12 +5,9 @@ ghost use Rattle.ftd_days.specs.Calendar.{last_day};
 ghost use Rattle.ftd_c.specs.Calls.{form_of, rule_of};
 ghost use Rattle.ftd_c.specs.Faults.{code_of};
 
-use ftd_days::{CalendarFault, Day};
+use ftd_days::{CalendarFault, Day, LAST_DAY};
 use ftd_rules::{Form, Rule};
 use std::alloc::AllocFailed;
-
-/// The number of the last day, 31 December 2199.
-const LAST: u32 = 109_572;
 
 /// Why there is no answer.
 #[derive(Clone, Copy, Debug, PartialEq, Eq)]
@@ -51,7 +48,7 @@ pub fn day_of(number: u32) -> Result<Day, CallFault>
     ensures { MatchResult result (λ day. (day ≡ number) × (number ≤ last_day))
         (λ fault. (fault ≡ CallFault.OutOfRange) × ¬ (number ≤ last_day)) }
 {
-    if number > LAST {
+    if number > LAST_DAY {
         return Err(CallFault::OutOfRange);
     }
     Ok(Day::first_of_month(0).plus(number))

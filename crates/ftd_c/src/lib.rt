@@ -14,7 +14,7 @@ mod codes;
 mod office;
 mod verdicts;
 
-use crate::asked::asked;
+use crate::asked::day_and_holidays;
 use crate::codes::{CallFault, form_of, number_of, rule_of};
 use ftd_days::Day;
 use ftd_rules::due_of;
@@ -43,7 +43,7 @@ fn due(
         → ¬ (IsSome (rule_of rule) × IsAsked last this_year.now next_year.now) }
 {
     let rule = rule_of(rule)?;
-    let (last, holidays) = asked(alloc, last, this_year, next_year)?;
+    let (last, holidays) = day_and_holidays(alloc, last, this_year, next_year)?;
     Ok(due_of(rule, last, &holidays))
 }
 
@@ -78,7 +78,7 @@ fn return_due(
         → ¬ (IsSome (form_of form) × IsAsked last this_year.now next_year.now) }
 {
     let form = form_of(form)?;
-    let (last, holidays) = asked(alloc, last, this_year, next_year)?;
+    let (last, holidays) = day_and_holidays(alloc, last, this_year, next_year)?;
     Ok(ftd_rules::return_due(form, last.quarter(), &holidays))
 }
 
@@ -114,7 +114,7 @@ fn makeup(
         × IsSome (rule_of rule) × IsAsked last this_year.now next_year.now) }
 {
     let (form, rule) = (form_of(form)?, rule_of(rule)?);
-    let (last, holidays) = asked(alloc, last, this_year, next_year)?;
+    let (last, holidays) = day_and_holidays(alloc, last, this_year, next_year)?;
     let due = due_of(rule, last, &holidays);
     Ok(ftd_rules::makeup(form, rule, last, due, &holidays))
 }

@@ -3,6 +3,7 @@ use Rattle.std.specs.Prelude.{ℕ, ◌≡◌, ◌||◌, ◌&&◌, nat_lt, Bool, 
 use Rattle.std.specs.Prelude.{if◌then◌else◌}
 use Rattle.std.specs.Option.{is_none}
 use Rattle.clap.specs.Words.{Row, Text}
+use Rattle.ftd_days.specs.declared.limits.TheConstants.{FIRST_YEAR, LAST_OPEN_YEAR}
 use Rattle.ftd_csv.specs.declared.sheets.Sheet.{Sheet}
 use Rattle.ftd_machine.specs.declared.requests.Request.{Request}
 use Rattle.ftd_answers.specs.declared.formats.Format.{Format}
@@ -56,7 +57,7 @@ account_in rows =
 abbrev pub year_in : List Row → Result ℕ WordFault
 year_in rows =
     then_with (whole_in (word.Field field.Year) rows)
-    (λ year. if nat_lt year 2001 || nat_lt 2098 year
+    (λ year. if nat_lt year FIRST_YEAR || nat_lt LAST_OPEN_YEAR year
     then Err (fault.BadWord (word.Field field.Year))
     else Ok year)
 

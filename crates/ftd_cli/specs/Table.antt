@@ -99,33 +99,17 @@ word_text (word.Field at) = field_text at
 
 -- the word of a field of this kind stands behind two hyphens
 abbrev pub is_kind_option : Kind → Bool
-is_kind_option kind.Account = false
-is_kind_option kind.Number = false
 is_kind_option kind.NumberOrNext = true
-is_kind_option kind.Year = false
-is_kind_option kind.Day = false
-is_kind_option kind.DayOrOther = false
-is_kind_option kind.Days = false
-is_kind_option kind.Quarter = false
-is_kind_option kind.Amount = false
 is_kind_option kind.Mark = true
-is_kind_option kind.Answer = false
 is_kind_option kind.Form = true
+is_kind_option other = false
 
 -- a word that stands behind two hyphens
 abbrev pub is_option : Word → Bool
-is_option word.Db = true
-is_option word.Wait = true
-is_option word.Port = true
-is_option word.Connections = true
-is_option word.Idle = true
-is_option word.Silence = true
-is_option word.Duration = true
 is_option word.CsvFile = false
-is_option word.Check = true
 is_option word.Holidays = false
-is_option (word.Format formats) = true
 is_option (word.Field at) = is_kind_option (kind_of at)
+is_option other = true
 
 -- what the word of a field of this kind takes
 abbrev pub kind_takes : Kind → Takes

@@ -15,6 +15,7 @@ use crate::words::Words;
 use crate::{Name, Word};
 use clap::ArgMatches;
 use ftd_csv::Sheet;
+use ftd_days::{FIRST_YEAR, LAST_OPEN_YEAR};
 use ftd_machine::{AccountName, Request};
 use ftd_rules::is_account_name;
 use ftd_verbs::{Field, Verb, read_request};
@@ -38,7 +39,7 @@ fn plain_year(inner: &ArgMatches<'_>) -> Result<u32, WordFault>
 {
     let word = Word::Field(Field::Year);
     let year = whole_at(inner, word)?;
-    if year < 2001 || year > 2098 {
+    if year < FIRST_YEAR || year > LAST_OPEN_YEAR {
         return Err(WordFault::BadWord(word));
     }
     Ok(year)

@@ -11,9 +11,9 @@ ghost use Rattle.ftd_cli.specs.Tasks.{Fails, Gives, IsUsage, Refused, ShowsValue
 ghost use Rattle.ftd_cli.specs.Tasks.{rows_in, task_of, task_view, value, wanted_in, words};
 
 use crate::asking::task_for;
-use crate::escape::{escaped, escaped_word};
+use crate::escape::{escape_text, escape_word};
 use crate::fault::WordFault;
-use crate::parse::{ParseFault, parsed};
+use crate::parse::{ParseFault, parse};
 use crate::reading::bad_value;
 use crate::tasks::{CliFault, Task};
 use crate::{NAMES, Name, Word};
@@ -146,7 +146,7 @@ fn bad_argument(alloc: Global, matches: &ArgMatches<'_>, word: Word) -> CliFault
 {
     CliFault::BadArgument {
         word,
-        value: escaped_word(alloc, value_in(matches, word)).ok(),
+        value: escape_word(alloc, value_in(matches, word)).ok(),
     }
 }
 
@@ -154,7 +154,7 @@ fn bad_argument(alloc: Global, matches: &ArgMatches<'_>, word: Word) -> CliFault
 fn usage(alloc: Global, text: &str) -> CliFault
     ensures { (said : Result Wanted Refused) → IsUsage said → Fails result said }
 {
-    match escaped(alloc, text) {
+    match escape_text(alloc, text) {
         Ok(text) => CliFault::Usage(text),
         Err(_) => CliFault::Memory,
     }
@@ -168,7 +168,7 @@ pub fn decide(alloc: Global, words: &[String]) -> Result<Task, CliFault>
     ensures value { IfErr result
         (ShowsValue (rows_in (subcommand_of ftd_app (map string_bytes words.now)))) }
 {
-    match parsed(alloc, words) {
+    match parse(alloc, words) {
         Ok(matches) => match task_in(alloc, &matches) {
             Ok(task) => Ok(task),
             Err(fault) => Err(told_fault(alloc, &matches, fault)),

@@ -59,14 +59,14 @@ fn escaped_as(alloc: Global, lines: bool, text: &str) -> Result<String, AllocErr
 }
 
 /// A text, each control byte but a line end as `\x1b`.
-pub fn escaped(alloc: Global, text: &str) -> Result<String, AllocError>
+pub fn escape_text(alloc: Global, text: &str) -> Result<String, AllocError>
     ensures { IfOk result (λ said. string_bytes said ≡ escaped text.now) }
 {
     escaped_as(alloc, true, text)
 }
 
 /// A word, each control byte as `\x1b`, also a line end: what is printed stands in one line.
-pub fn escaped_word(alloc: Global, word: &str) -> Result<String, AllocError>
+pub fn escape_word(alloc: Global, word: &str) -> Result<String, AllocError>
     ensures { IfOk result (λ said. string_bytes said ≡ escaped_word word.now) }
 {
     escaped_as(alloc, false, word)

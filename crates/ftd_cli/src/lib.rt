@@ -15,6 +15,6 @@ mod tasks;
 mod words;
 
 pub use crate::deciding::decide;
-pub use crate::escape::{escaped, escaped_word};
+pub use crate::escape::{escape_text, escape_word};
 pub use crate::table::{NAMES, Name, Takes, Word};
 pub use crate::tasks::{CliFault, Job, LocalTask, PlainTask, ServeTask, Task};

@@ -32,7 +32,7 @@ fn fault_from(e: Error) -> ParseFault
 
 /// The words of a command line, of which the first is the program's name, by subcommand and
 /// argument.
-pub fn parsed(alloc: Global, words: &[String]) -> Result<ArgMatches<'_>, ParseFault>
+pub fn parse(alloc: Global, words: &[String]) -> Result<ArgMatches<'_>, ParseFault>
     ensures { ParseGives result (map string_bytes words.entry.now) }
 {
     let Ok(command) = ftd_command(alloc) else {

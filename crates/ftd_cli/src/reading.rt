@@ -86,7 +86,7 @@ fn chosen_format(inner: &ArgMatches<'_>, formats: Formats) -> Result<Format, Wor
     let Some(text) = text_at(inner, word) else {
         return Err(WordFault::BadWord(word));
     };
-    formats.named(text).ok_or(WordFault::BadWord(word))
+    formats.by_name(text).ok_or(WordFault::BadWord(word))
 }
 
 /// The format of an answer that is asked for: text, where it is told in one way.

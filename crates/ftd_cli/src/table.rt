@@ -187,18 +187,7 @@ fn field_text<'a>(field: Field) -> &'a str
 fn is_kind_option(kind: Kind) -> bool
     ensures { result ≡ is_kind_option kind }
 {
-    match kind {
-        Kind::Mark | Kind::Form | Kind::NumberOrNext => true,
-        Kind::Account
-        | Kind::Number
-        | Kind::Year
-        | Kind::Day
-        | Kind::DayOrOther
-        | Kind::Days
-        | Kind::Quarter
-        | Kind::Amount
-        | Kind::Answer => false,
-    }
+    matches!(kind, Kind::Mark | Kind::Form | Kind::NumberOrNext)
 }
 
 /// What the word of a field of this kind takes.
@@ -243,16 +232,8 @@ impl Word {
     {
         match self {
             Word::CsvFile | Word::Holidays => false,
-            Word::Db
-            | Word::Wait
-            | Word::Port
-            | Word::Connections
-            | Word::Idle
-            | Word::Silence
-            | Word::Duration
-            | Word::Check
-            | Word::Format(_) => true,
             Word::Field(field) => is_kind_option(field.kind()),
+            _ => true,
         }
     }
 

@@ -1,5 +1,6 @@
 //! What words may ask, and why they may ask nothing.
 
+ghost use Rattle.ftd_days.specs.declared.limits.TheConstants.{FIRST_YEAR, LAST_OPEN_YEAR};
 ghost use Rattle.std.specs.Prelude.{◌≤◌};
 
 use crate::Word;
@@ -16,8 +17,8 @@ pub struct PlainTask {
     pub year: u32,
     /// The holidays of the year and the next.
     pub holidays: Days,
-    pub ghost from: { 2001 ≤ year },
-    pub ghost to: { year ≤ 2098 },
+    pub ghost from: { FIRST_YEAR ≤ year },
+    pub ghost to: { year ≤ LAST_OPEN_YEAR },
 }
 
 /// What is to be done with the desk in a database.

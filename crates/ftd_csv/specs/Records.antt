@@ -18,8 +18,8 @@ abbrev pub content_by : Sheet → Result Request Field → Content
 content_by kind (Ok request) = content.Entry request
 content_by kind (Err at) = content.Malformed (column_of kind at)
 
--- what a record of these fields says, on a sheet: what its verb asks by them, where they are as many
--- as the header has
+-- what a record of these fields says, on a sheet: what its verb asks by them, where they are as
+-- many as the header has
 unfoldable pub entry_in : Sheet → List (List ℕ) → Content
 entry_in kind fields =
     let said : Said = said_in kind fields in

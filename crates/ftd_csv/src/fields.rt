@@ -148,7 +148,7 @@ impl Fields for RecordFields<'_> {
 
     fn account(&self, alloc: Global, field: Field) -> Result<Option<AccountName>, AllocError> {
         match self.name(field) {
-            Some(name) => Ok(Some(AccountName::copied(alloc, name)?)),
+            Some(name) => Ok(Some(AccountName::copy_of(alloc, name)?)),
             None => Ok(None),
         }
     }

@@ -19,7 +19,7 @@ use Rattle.ftd_sql.specs.Names.{name_of}
 use Rattle.ftd_sql.specs.Layout.{table_of}
 use Rattle.ftd_sql.specs.Rows.{MetaRow, cells_of}
 use Rattle.ftd_setup.specs.Versions.{IsNew, Opening, Opens, has_later}
-use Rattle.ftd_setup.specs.declared.opening.NotOpened.{NotOpened}
+use Rattle.ftd_setup.specs.declared.opening.UnopenedDatabase.{UnopenedDatabase}
 use Rattle.ftd_machine.specs.State.{State, nothing}
 use Rattle.ftd_machine.specs.Sound.{IsSound}
 use Rattle.ftd_entries.specs.Standing.{StandsForEarlier}
@@ -121,7 +121,7 @@ desk_opens g old conn over desk opening is_over is_of keeps =
 
 -- and where a desk stood for a state that rests in the database, the new one stands for it
 pub desk_stands : {S : Type 0} (g : store.Ghosts S) (old : Held) (conn : connection.Held S)
-    (result : Result (Desk S) (NotOpened S))
+    (result : Result (Desk S) (UnopenedDatabase S))
     → ((s : State) → Keeps old s → Rests (connection.state g conn) s)
     → IfOk result (λ desk. opened.Opens (connection.state g conn) (held g desk))
     → IfOk result (λ desk. HasCleanDisk (held g desk).db → (s : State) → Keeps old s

@@ -9,7 +9,7 @@ use Rattle.ftd_sql.specs.Making.{IsFree}
 use Rattle.ftd_sql.specs.Beginnings.{IsEarlier}
 use Rattle.ftd_sql.specs.Standing.{Tables, StandsAs}
 use Rattle.ftd_setup.specs.Versions.{IsNew}
-use Rattle.ftd_setup.specs.declared.opening.NotOpened.{NotOpened}
+use Rattle.ftd_setup.specs.declared.opening.UnopenedDatabase.{UnopenedDatabase}
 use Rattle.ftd_setup.specs.declared.opening.OpenFault.{OpenFault}
 use Rattle.ftd_store.specs.Seen.{seen}
 use Rattle.ftd_machine.specs.State.{State, nothing}
@@ -19,7 +19,7 @@ use Rattle.ftd_desk.specs.Desks.{Held, Rests, Keeps}
 use Rattle.ftd_desk.specs.declared.desk.Desk.{Desk}
 
 -- what is seen of the database then, and the outcome
-abbrev pub Ended : {S : Type 0} → store.Ghosts S → Result (Desk S) (NotOpened S)
+abbrev pub Ended : {S : Type 0} → store.Ghosts S → Result (Desk S) (UnopenedDatabase S)
     → (database.State → Result (Unit {0}) OpenFault → Type 0) → Type 0
 Ended g (Ok desk) P = P (seen g desk.store) (Ok tt)
 Ended g (Err e) P = P (connection.state g e.connection) (Err e.fault)

@@ -7,10 +7,11 @@ ghost use Rattle.ftd_entries.specs.Words.{Serves};
 ghost use Rattle.ftd_questions.specs.Shown.{Shows};
 
 use ftd_kept::{
-    accounts, explain, holidays, payments, reported, runs, schedule_b, status, unapplied, years,
+    accounts, explain, holidays, payments, reported_totals, runs, schedule_b, status,
+    unapplied_money, years,
 };
-use ftd_machine::{Answer, Kept, Question};
-use ftd_questions::{agenda, due_list, owed};
+use ftd_machine::{Answer, KeptList, Question};
+use ftd_questions::{agenda, due_list, owed_list};
 use ftd_store::{StoreFault, Tx};
 use sqlite::Alter;
 use std::alloc::Global;
@@ -38,23 +39,23 @@ pub(crate) fn ask<S: Alter>(
             schedule_b(tx, alloc, account.as_str(), *quarter)
         }
         Question::Agenda { from, to, as_of } => agenda(tx, alloc, *from, *to, *as_of),
-        Question::Owed { until, as_of } => owed(tx, alloc, *until, *as_of),
-        Question::Unapplied { until } => unapplied(tx, alloc, *until),
+        Question::Owed { until, as_of } => owed_list(tx, alloc, *until, *as_of),
+        Question::Unapplied { until } => unapplied_money(tx, alloc, *until),
         Question::Kept(asked) => kept(tx, alloc, asked),
     }
 }
 
 /// Tells what is kept, as far as it is asked for.
-fn kept<S: Alter>(tx: &mut Tx<'_, S>, alloc: Global, asked: &Kept) -> Result<Answer, StoreFault>
+fn kept<S: Alter>(tx: &mut Tx<'_, S>, alloc: Global, asked: &KeptList) -> Result<Answer, StoreFault>
     ensures call { Calls S.Store tx.old tx.new result
         (Serves (requests.Question (questions.Kept asked.now))) }
 {
     match asked {
-        Kept::Accounts => accounts(tx, alloc),
-        Kept::Years { account } => years(tx, alloc, account.as_str()),
-        Kept::Reported { account } => reported(tx, alloc, account.as_str()),
-        Kept::Holidays { year } => holidays(tx, alloc, *year),
-        Kept::Runs { account, quarter } => runs(tx, alloc, account.as_str(), *quarter),
-        Kept::Payments { account, quarter } => payments(tx, alloc, account.as_str(), *quarter),
+        KeptList::Accounts => accounts(tx, alloc),
+        KeptList::Years { account } => years(tx, alloc, account.as_str()),
+        KeptList::Reported { account } => reported_totals(tx, alloc, account.as_str()),
+        KeptList::Holidays { year } => holidays(tx, alloc, *year),
+        KeptList::Runs { account, quarter } => runs(tx, alloc, account.as_str(), *quarter),
+        KeptList::Payments { account, quarter } => payments(tx, alloc, account.as_str(), *quarter),
     }
 }

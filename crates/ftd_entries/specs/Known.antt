@@ -91,10 +91,6 @@ KnowsYearCorrections name year found t =
     (s : State) → KeepsFigures t s → amounts_of found
     ≡ all_at year (entries_of s name).corrected_years
 
--- those of the account itself, in each state for which the tables stand
-abbrev pub KnowsMoves : List ℕ → List AccountCorrection → Tables → Type 0
-KnowsMoves name found t = (s : State) → StandsFor t s → beginnings_of found ≡ moves_in s name
-
 -- the figure in force of the account's quarter, or of its year, if one was reported, in each state
 -- of which the tables have the figures and their corrections
 abbrev pub KnowsFigure : List ℕ → ℕ → Option Cents → Tables → Type 0

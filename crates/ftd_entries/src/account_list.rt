@@ -53,7 +53,7 @@ fn accounts_in_force<S: Alter>(
 ) -> Result<Vec<KeptAccount>, StoreFault>
     ensures call { Reads S.Store tx.old tx.new result (λ rows. AreToldAccounts rows.items) }
 {
-    let named = tx.enrolled(alloc)?;
+    let named = tx.all_accounts(alloc)?;
     let mut rows: Vec<KeptAccount> = Vec::new(alloc);
     for row in &named {
         let Some(account) = known_account(tx, alloc, &row.name)? else {

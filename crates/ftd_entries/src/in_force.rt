@@ -20,7 +20,7 @@ pub fn figure<S: Alter>(
 ) -> Result<Option<Cents>, StoreFault>
     ensures call { Reads S.Store tx.old tx.new result (KnowsFigure name.now quarter) }
 {
-    let reported = tx.reported(name, quarter)?;
+    let reported = tx.reported_total(name, quarter)?;
     let corrections = tx.corrections(alloc, name, quarter)?;
     Ok(in_force(reported, &corrections))
 }
@@ -34,7 +34,7 @@ pub fn year_figure<S: Alter>(
 ) -> Result<Option<Cents>, StoreFault>
     ensures call { Reads S.Store tx.old tx.new result (KnowsYearFigure name.now year) }
 {
-    let reported = tx.reported_year(name, year)?;
+    let reported = tx.reported_year_total(name, year)?;
     let corrections = tx.year_corrections(alloc, name, year)?;
     Ok(in_force(reported, &corrections))
 }

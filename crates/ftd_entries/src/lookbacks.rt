@@ -6,9 +6,9 @@ ghost use Rattle.ftd_entries.specs.Totals.{IsTotalOn941, IsTotalOn943, KnowsTota
 ghost use Rattle.ftd_entries.specs.Totals.{KnowsTotalOn943, figures_found, figure_before};
 
 use crate::in_force::{figure, year_figure};
-use ftd_days::{Cents, Day, Quarter};
+use ftd_days::{Cents, Day, FIRST_YEAR, LAST_OPEN_YEAR, Quarter};
 use ftd_machine::{Account, Refusal};
-use ftd_rules::{Form, lookback, lookback_943};
+use ftd_rules::{Form, MOST_CENTS, lookback, lookback_943};
 use ftd_store::{StoreFault, Tx};
 use sqlite::Alter;
 use std::alloc::{AllocError, Global};
@@ -22,8 +22,8 @@ pub fn lookback_total<S: Alter>(
     account: Account,
     year: u32,
 ) -> Result<Result<Cents, Refusal>, StoreFault>
-    requires from { 2001 ≤ year }
-    requires to { year ≤ 2098 }
+    requires from { FIRST_YEAR ≤ year }
+    requires to { year ≤ LAST_OPEN_YEAR }
     ensures call { Reads S.Store tx.old tx.new result (KnowsTotal name.now account year) }
 {
     match account.form {
@@ -41,8 +41,8 @@ fn total_941<S: Alter>(
     start: Day,
     year: u32,
 ) -> Result<Result<Cents, Refusal>, StoreFault>
-    requires from { 2001 ≤ year }
-    requires to { year ≤ 2098 }
+    requires from { FIRST_YEAR ≤ year }
+    requires to { year ≤ LAST_OPEN_YEAR }
     ensures call { Reads S.Store tx.old tx.new result (KnowsTotalOn941 name.now start year) }
 {
     let quarters = 4 * (year - 2 - 1900) + 2;
@@ -68,14 +68,14 @@ fn total_of_found(
     start: Day,
     year: u32,
 ) -> Result<Result<Cents, Refusal>, StoreFault>
-    requires from { 2001 ≤ year }
-    requires to { year ≤ 2098 }
+    requires from { FIRST_YEAR ≤ year }
+    requires to { year ≤ LAST_OPEN_YEAR }
     ensures { IfOk result (λ total. IsTotalOn941 (figures_found found.now) start year total) }
 {
     let Ok(figures) = figures_found(alloc, found) else {
         return Err(StoreFault::Memory);
     };
-    if !figures.iter().all(|figure| figure.1.0 <= 99_999_999_999) {
+    if !figures.iter().all(|figure| figure.1.0 <= MOST_CENTS) {
         return Err(StoreFault::Failed);
     }
     Ok(total_of_quarters(&figures, start, year))
@@ -105,8 +105,8 @@ fn total_943<S: Alter>(
     start: Day,
     year: u32,
 ) -> Result<Result<Cents, Refusal>, StoreFault>
-    requires from { 2001 ≤ year }
-    requires to { year ≤ 2098 }
+    requires from { FIRST_YEAR ≤ year }
+    requires to { year ≤ LAST_OPEN_YEAR }
     ensures call { Reads S.Store tx.old tx.new result (KnowsTotalOn943 name.now start year) }
 {
     let found = year_figure(tx, alloc, name, year - 2)?;
@@ -115,8 +115,8 @@ fn total_943<S: Alter>(
 
 /// The same, where this was reported for the second year before.
 fn total_of_year(found: Option<Cents>, start: Day, year: u32) -> Result<Cents, Refusal>
-    requires from { 2001 ≤ year }
-    requires to { year ≤ 2098 }
+    requires from { FIRST_YEAR ≤ year }
+    requires to { year ≤ LAST_OPEN_YEAR }
     ensures { IsTotalOn943 (figure_before year found) start year result }
 {
     match found {
@@ -127,8 +127,8 @@ fn total_of_year(found: Option<Cents>, start: Day, year: u32) -> Result<Cents, R
 
 /// The same, where these figures were reported.
 fn total_of_years(reported: &[(u32, Cents)], start: Day, year: u32) -> Result<Cents, Refusal>
-    requires from { 2001 ≤ year }
-    requires to { year ≤ 2098 }
+    requires from { FIRST_YEAR ≤ year }
+    requires to { year ≤ LAST_OPEN_YEAR }
     ensures { IsTotalOn943 reported.now start year result }
 {
     match lookback_943(reported, start, year) {
@@ -140,9 +140,9 @@ fn total_of_years(reported: &[(u32, Cents)], start: Day, year: u32) -> Result<Ce
 /// The lookback total on Form 941 where these figures were reported, or the refusal that names the
 /// earliest quarter whose figure is missing.
 fn total_of_quarters(reported: &[(Quarter, Cents)], start: Day, year: u32) -> Result<Cents, Refusal>
-    requires from { 2001 ≤ year }
-    requires to { year ≤ 2098 }
-    requires figures { All (λ figure. figure.1.0 ≤ 99_999_999_999) reported.now }
+    requires from { FIRST_YEAR ≤ year }
+    requires to { year ≤ LAST_OPEN_YEAR }
+    requires figures { All (λ figure. figure.1.0 ≤ MOST_CENTS) reported.now }
     ensures { IsTotalOn941 reported.now start year result }
 {
     match lookback(reported, start, year) {

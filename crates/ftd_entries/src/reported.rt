@@ -23,8 +23,8 @@ pub fn first_reported<S: Alter>(
     ensures call { Reads S.Store tx.old tx.new result (FindsTotal name.now period.now) }
 {
     match period {
-        ReturnPeriod::Quarter(quarter) => tx.reported(name, *quarter),
-        ReturnPeriod::Year(year) => tx.reported_year(name, *year),
+        ReturnPeriod::Quarter(quarter) => tx.reported_total(name, *quarter),
+        ReturnPeriod::Year(year) => tx.reported_year_total(name, *year),
     }
 }
 

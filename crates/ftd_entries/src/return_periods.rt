@@ -10,7 +10,7 @@ ghost use Rattle.ftd_entries.specs.Returns.{KnowsLiability, KnowsPayments, Knows
 ghost use Rattle.ftd_entries.specs.Returns.{KnowsPeriod};
 
 use crate::figure;
-use ftd_days::{Cents, Day, Quarter};
+use ftd_days::{Cents, Day, FIRST_YEAR, Quarter};
 use ftd_rules::{AMOUNTS_END, DaySum, Form, Payment, period};
 use ftd_store::{StoreFault, Tx};
 use sqlite::Alter;
@@ -105,7 +105,7 @@ fn preceding<S: Alter>(
     form: Form,
     quarter: Quarter,
 ) -> Result<Option<Cents>, StoreFault>
-    requires { 2001 ≤ quarter_year quarter }
+    requires { FIRST_YEAR ≤ quarter_year quarter }
     ensures call { Reads S.Store tx.old tx.new result (KnowsPreceding name.now form quarter) }
 {
     let found = figure(tx, alloc, name, Quarter::at(quarter.quarters() - 1))?;
@@ -123,7 +123,7 @@ pub fn return_period<S: Alter>(
     form: Form,
     quarter: Quarter,
 ) -> Result<ReturnFacts, StoreFault>
-    requires { 2001 ≤ quarter_year quarter }
+    requires { FIRST_YEAR ≤ quarter_year quarter }
     ensures call { Reads S.Store tx.old tx.new result (KnowsPeriod name.now form quarter) }
     ensures small { IfOk result (λ period.
         sum_by payment_cents period.payments.items < AMOUNTS_END) }

@@ -46,7 +46,7 @@ pub fn desk_of<D: Disk + Drop>(
 
 /// Closes the files of a desk. `NotClosed` if the log can't be copied into the file: what was
 /// committed is in the log then.
-pub fn closed<D: Disk + Drop>(desk: Desk<FileStore<D>>) -> Result<(), ProgramFault> {
+pub fn close_files<D: Disk + Drop>(desk: Desk<FileStore<D>>) -> Result<(), ProgramFault> {
     match desk.close().close() {
         Ok(()) => Ok(()),
         Err(_) => Err(ProgramFault::NotClosed),

@@ -2,7 +2,7 @@
 
 use crate::faults::ProgramFault;
 use crate::folder::{has_folder, meant};
-use ftd_cli::escaped_word;
+use ftd_cli::escape_word;
 use std::fs::{self, File};
 use std::io::ErrorKind;
 
@@ -55,17 +55,14 @@ fn tell_other(rt: &HostRuntime, db: &str, why: &str) {
     let Some(other) = meant(rt, db) else {
         return tell_file(rt, db, why);
     };
-    if let (Ok(name), Ok(other)) = (
-        escaped_word(rt.alloc(), db),
-        escaped_word(rt.alloc(), &other),
-    ) {
+    if let (Ok(name), Ok(other)) = (escape_word(rt.alloc(), db), escape_word(rt.alloc(), &other)) {
         let _ = eprint!(rt; "hint: {name}: {why}; is {other} meant?\n");
     }
 }
 
 /// Tells where the last commands on a file are that could not be closed.
 fn tell_log(rt: &HostRuntime, db: &str) {
-    if let Ok(name) = escaped_word(rt.alloc(), db) {
+    if let Ok(name) = escape_word(rt.alloc(), db) {
         let _ = eprint!(rt;
             "hint: {name}: the last commands are in {name}-wal: keep both files, and run a command when the disk has room\n"
         );
@@ -77,7 +74,7 @@ fn tell_file(rt: &HostRuntime, name: &str, why: &str) {
     if name.is_empty() {
         return;
     }
-    if let Ok(name) = escaped_word(rt.alloc(), name) {
+    if let Ok(name) = escape_word(rt.alloc(), name) {
         let _ = eprint!(rt; "hint: {name}: {why}\n");
     }
 }

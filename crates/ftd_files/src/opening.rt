@@ -18,7 +18,7 @@ const LOG_FRAMES: usize = 254;
 /// The database of the file, which is made if it is not there. Each page of a file that is made
 /// carries a sum, so that a byte that changes on the disk is noticed. If another program has the
 /// file open, it is tried again for that many seconds.
-pub fn opened(
+pub fn open_database(
     rt: &HostRuntime,
     db: &str,
     wait: u32,
@@ -28,7 +28,7 @@ pub fn opened(
 }
 
 /// The same, and its log is copied into the file when it passes one megabyte.
-pub fn opened_with_short_log(
+pub fn open_with_short_log(
     rt: &HostRuntime,
     db: &str,
     wait: u32,
@@ -42,7 +42,7 @@ pub fn opened_with_short_log(
 
 /// The database of a copy of the file in memory: whatever is done with it, the file keeps its
 /// bytes. No log is left beside it that was not there. It waits as `opened` does.
-pub fn opened_copy(
+pub fn open_copy(
     rt: &HostRuntime,
     db: &str,
     wait: u32,

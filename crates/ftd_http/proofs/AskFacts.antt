@@ -9,7 +9,7 @@ use Rattle.ftd_http.specs.Routes.{route_of}
 use Rattle.ftd_http.specs.Requests.{request_of}
 use Rattle.ftd_http.specs.Asking.{method_text, method_of, formed, routed, asked_of}
 use Rattle.ftd_http.specs.declared.route.Route.{Route}
-use Rattle.ftd_http.specs.declared.ask.Asked.TheVariants as asked
+use Rattle.ftd_http.specs.declared.ask.Inquiry.TheVariants as asked
 
 -- by the test for UTF-8
 by_text : (m t b : List ℕ) (text : Bool) → is_utf8 t ≡ text → asked_of m t b ≡ cond text

@@ -9,8 +9,8 @@ use Rattle.ftd_verbs.specs.declared.rows.Method.TheVariants.{Get, Post, Put, Del
 use Rattle.ftd_http.specs.Routes.{route_of}
 use Rattle.ftd_http.specs.Requests.{request_of}
 use Rattle.ftd_http.specs.declared.route.Route.{Route}
-use Rattle.ftd_http.specs.declared.ask.Asked.{Asked}
-use Rattle.ftd_http.specs.declared.ask.Asked.TheVariants as asked
+use Rattle.ftd_http.specs.declared.ask.Inquiry.{Inquiry}
+use Rattle.ftd_http.specs.declared.ask.Inquiry.TheVariants as asked
 
 -- a method
 abbrev pub method_text : Method → List ℕ
@@ -20,7 +20,7 @@ method_text Put = codes "PUT"
 method_text Delete = codes "DELETE"
 
 -- what a message of the right method asks
-abbrev pub formed : Format → Option Request → Asked
+abbrev pub formed : Format → Option Request → Inquiry
 formed format None = asked.BadForm
 formed format (Some request) = asked.Asks format request
 
@@ -28,7 +28,7 @@ formed format (Some request) = asked.Asks format request
 abbrev pub method_of : Route → Method
 method_of route = (row_of route.verb).method
 
-abbrev pub routed : List ℕ → List ℕ → List ℕ → Option Route → Asked
+abbrev pub routed : List ℕ → List ℕ → List ℕ → Option Route → Inquiry
 routed method target body None = asked.NoRoute
 routed method target body (Some route) =
     if bytes_eq method (method_text (method_of route))
@@ -37,6 +37,6 @@ routed method target body (Some route) =
 
 -- what a message of this method, this target and this body asks; a target that is no UTF-8 has no
 -- route
-unfoldable pub asked_of : List ℕ → List ℕ → List ℕ → Asked
+unfoldable pub asked_of : List ℕ → List ℕ → List ℕ → Inquiry
 asked_of method target body =
     if is_utf8 target then routed method target body (route_of target) else asked.NoRoute

@@ -4,6 +4,7 @@ use Rattle.std.specs.Prelude.{ℕ, ◌&&◌, ◌||◌, ◌==◌, nat_lt, nat_le,
 use Rattle.std.specs.Prelude.{codes, Option, Some, None, Result, Ok, Err, if◌then◌else◌}
 use Rattle.std.specs.List.{list_all}
 use Rattle.std.specs.Str.{all_ascii_digits, bytes_eq}
+use Rattle.ftd_http.specs.declared.lengths.TheConstants.{BODY_LIMIT}
 use Rattle.ftd_days.specs.Digits.{number_of}
 use Rattle.ftd_http.specs.Fields.{values_of, has_listed}
 use Rattle.ftd_http.specs.Origins.{origin_fault}
@@ -20,7 +21,7 @@ number_in text =
 -- a body has at most 1,048,576 bytes
 abbrev pub in_limit : Option ℕ → Result ℕ Status
 in_limit None = Err BadRequest
-in_limit (Some count) = if nat_le count 1_048_576 then Ok count else Err ContentTooLarge
+in_limit (Some count) = if nat_le count BODY_LIMIT then Ok count else Err ContentTooLarge
 
 -- the length of a body by the values of Content-Length: without one a POST is at fault and any
 -- other method has an empty body; several are the same text

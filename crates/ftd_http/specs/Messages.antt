@@ -5,6 +5,7 @@ use Rattle.std.specs.List.{flat_map}
 use Rattle.httparse.specs.Grammar.{RequestHead, IsRequestHead, ReadsRequest, HasNoRequest}
 use Rattle.httparse.specs.Grammar.{NeverHasRequest, MayBecomeRequest, EndsInTarget, print_request}
 use Rattle.httparse.specs.Spans.{RequestExceeds, RequestOverflows, name_and_value}
+use Rattle.ftd_http.specs.declared.look.TheConstants.{HEAD_LIMIT}
 use Rattle.ftd_http.specs.Heads.{body_length_of, asks_to_close}
 use Rattle.ftd_http.specs.declared.status.Status.{Status}
 use Rattle.ftd_http.specs.declared.status.Status.TheVariants.{BadRequest}
@@ -16,7 +17,7 @@ body_length head = body_length_of head.method (map name_and_value head.fields)
 -- a head of the grammar, of at most 16,384 bytes and 64 fields
 pub record IsHead (head : RequestHead) : Type 0 where
   pub valid : IsRequestHead head
-  pub short : length (print_request head) ≤ 16384
+  pub short : length (print_request head) ≤ HEAD_LIMIT
   pub few : length head.fields ≤ 64
 
 -- a message: a head and its body
@@ -47,9 +48,9 @@ closes message = asks_to_close message.head.minor (map name_and_value message.he
 -- is at fault with its body.
 pub data IsRefused (rest : List ℕ) : Status → Type 0 where
   long : (head : RequestHead) (after : List ℕ) → ReadsRequest rest head after
-      → 16384 < length (print_request head) → IsRefused rest BadRequest
+      → HEAD_LIMIT < length (print_request head) → IsRefused rest BadRequest
   many : RequestOverflows 64 rest → RequestExceeds 64 rest → IsRefused rest BadRequest
-  full : HasNoRequest rest → 16384 ≤ length rest → IsRefused rest BadRequest
+  full : HasNoRequest rest → HEAD_LIMIT ≤ length rest → IsRefused rest BadRequest
   never : NeverHasRequest rest → IsRefused rest BadRequest
   fault : (head : RequestHead) (after : List ℕ) (status : Status) → IsHead head
       → rest ≡ print_request head ++ after
@@ -57,7 +58,7 @@ pub data IsRefused (rest : List ℕ) : Status → Type 0 where
 
 -- a stream ends inside a message: inside its head, or inside its body
 pub data IsCut (rest : List ℕ) : Type 0 where
-  in_head : 0 < length rest → length rest < 16384 → HasNoRequest rest → MayBecomeRequest rest
+  in_head : 0 < length rest → length rest < HEAD_LIMIT → HasNoRequest rest → MayBecomeRequest rest
       → IsCut rest
   in_body : (head : RequestHead) (part : List ℕ) (count : ℕ) → IsHead head
       → rest ≡ print_request head ++ part

@@ -15,7 +15,7 @@ use std::alloc::{AllocError, Global};
 
 /// What a message asks.
 #[derive(Drop)]
-pub enum Asked {
+pub enum Inquiry {
     /// No route matches the target.
     NoRoute,
     /// The route has this method, and the message another.
@@ -46,19 +46,19 @@ pub fn what_is_asked(
     method: &[u8],
     target: &[u8],
     body: &[u8],
-) -> Result<Asked, AllocError>
+) -> Result<Inquiry, AllocError>
     requires { router.now ≡ all_routes }
     ensures { IfOk result (λ asked. asked ≡ asked_of method.now target.now body.now) }
 {
     let Ok(target) = str::from_utf8(target) else {
-        return Ok(Asked::NoRoute);
+        return Ok(Inquiry::NoRoute);
     };
     let Some(route) = look_up(router, target) else {
-        return Ok(Asked::NoRoute);
+        return Ok(Inquiry::NoRoute);
     };
     let wanted = route.verb.row().method;
     if !is_method(method, wanted) {
-        return Ok(Asked::OtherMethod(wanted));
+        return Ok(Inquiry::OtherMethod(wanted));
     }
     let request = make_request(alloc, route.verb, target, body)?;
     Ok(formed(route.format, request))
@@ -72,11 +72,11 @@ fn is_method(text: &[u8], method: Method) -> bool
 }
 
 /// What a message of the right method asks.
-fn formed(format: Format, request: Option<Request>) -> Asked
+fn formed(format: Format, request: Option<Request>) -> Inquiry
     ensures { result ≡ formed format request }
 {
     match request {
-        None => Asked::BadForm,
-        Some(request) => Asked::Asks { format, request },
+        None => Inquiry::BadForm,
+        Some(request) => Inquiry::Asks { format, request },
     }
 }

@@ -11,7 +11,7 @@ use ftd_days::digits::number;
 use httparse::spans::HeaderSpan;
 
 /// The greatest length of a body.
-const BODY_LIMIT: u64 = 1_048_576;
+pub const BODY_LIMIT: u64 = 1_048_576;
 
 /// The number that 1 to 10 digits spell. None for every other text.
 pub fn number_in(text: &[u8]) -> Option<u64>
@@ -31,7 +31,7 @@ pub fn number_in(text: &[u8]) -> Option<u64>
 pub fn body_length(buf: &[u8], method: &[u8], headers: &[HeaderSpan]) -> Result<usize, Status>
     requires { All (IsHeaderWithin (length buf.now)) headers.now }
     ensures value { result ≡ body_length_of method.now (map (header_bytes buf.now) headers.now) }
-    ensures limit { IfOk result (λ count. count ≤ 1_048_576) }
+    ensures limit { IfOk result (λ count. count ≤ BODY_LIMIT) }
 {
     if let Some(fault) = origin_fault(buf, headers) {
         return Err(fault);

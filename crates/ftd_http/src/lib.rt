@@ -17,9 +17,9 @@ mod route;
 mod status;
 mod values;
 
-pub use crate::ask::{Asked, method_bytes, what_is_asked};
-pub use crate::lengths::number_in;
-pub use crate::look::Parts;
+pub use crate::ask::{Inquiry, method_bytes, what_is_asked};
+pub use crate::lengths::{BODY_LIMIT, number_in};
+pub use crate::look::{HEAD_LIMIT, Parts};
 pub use crate::peer::Peer;
 pub use crate::read::{Next, ReadFault, next_message};
 pub use crate::route::{Route, make_router};

@@ -10,7 +10,7 @@ use httparse::Status as Parsed;
 use httparse::spans::{HeaderSpan, RequestSpans, Span, parse_request};
 
 /// The greatest length of a head, with its empty line.
-const HEAD_LIMIT: usize = 16_384;
+pub const HEAD_LIMIT: usize = 16_384;
 
 /// Where the parts of a message stand in the bytes read, of which it is the first.
 #[derive(Clone, Copy, Debug)]

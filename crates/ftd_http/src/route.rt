@@ -122,7 +122,7 @@ fn behind(verb: Verb, text: &str) -> Option<Format>
     if text == "text" {
         return None;
     }
-    verb.row().formats.named(text)
+    verb.row().formats.by_name(text)
 }
 
 /// A target before its last slash, and behind it.

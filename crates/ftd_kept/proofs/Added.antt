@@ -35,11 +35,6 @@ adds_one Is xs x is only z = (
   ]),
 )
 
--- of no item yet
-pub adds_start : {X Y : Type 0} (IsOf : X → Y → Type 0) (ys : List Y)
-    → Adds (IsOfOne IsOf []) ys ys
-adds_start IsOf ys = adds_none (IsOfOne IsOf []) ys (λ y h. absurd h.1)
-
 -- of one item more
 pub adds_next : {X Y : Type 0} (IsOf : X → Y → Type 0) (xs : List X) (i : ℕ) (x : X)
     → i < length xs → x ≡ get_or xs i x → (before mid after : List Y)

@@ -2,6 +2,8 @@
 use Rattle.std.specs.Prelude.{◌≡◌, ◌==◌, ◌&&◌, ◌||◌, ◌↔◌, ◌++◌, ℕ, nat_lt, Bool, true, false, List}
 use Rattle.std.specs.Prelude.{◌⊎◌, ◌≤◌, map, Some}
 use Rattle.std.specs.List.{All}
+use Rattle.ftd_days.specs.declared.limits.TheConstants.{FIRST_YEAR, LAST_OPEN_YEAR}
+use Rattle.ftd_rules.specs.declared.TheConstants.{MOST_CENTS}
 use Rattle.ftd_rules.specs.declared.Form.{Form}
 use Rattle.ftd_rules.specs.declared.Form.TheVariants.{F941, F943}
 use Rattle.ftd_rules.specs.declared.YearLine.{YearLine}
@@ -48,7 +50,7 @@ IsLookbackBy F943 quarters years start year total = IsYearLookback years start y
 -- period is missing
 abbrev pub LacksQuarter : List (ℕ × Cents) → ℕ → ℕ → Type 0
 LacksQuarter quarters start year =
-    (All (λ figure. figure.1.0 ≤ 99_999_999_999) quarters → ⊥)
+    (All (λ figure. figure.1.0 ≤ MOST_CENTS) quarters → ⊥)
     ⊎ ((quarter : ℕ) × IsFirstMissing quarters start year quarter)
 
 -- there is none by the totals of years: that of the lookback period is missing
@@ -58,9 +60,9 @@ LacksYear years start year = (missing : ℕ) × IsYearMissing years start year m
 -- there is none by those that count on the form, or the year is none of 2001 to 2098
 abbrev pub LacksLookback : Form → List (ℕ × Cents) → List (ℕ × Cents) → ℕ → ℕ → Type 0
 LacksLookback F941 quarters years start year =
-    (2001 ≤ year → year ≤ 2098 → ⊥) ⊎ LacksQuarter quarters start year
+    (FIRST_YEAR ≤ year → year ≤ LAST_OPEN_YEAR → ⊥) ⊎ LacksQuarter quarters start year
 LacksLookback F943 quarters years start year =
-    (2001 ≤ year → year ≤ 2098 → ⊥) ⊎ LacksYear years start year
+    (FIRST_YEAR ≤ year → year ≤ LAST_OPEN_YEAR → ⊥) ⊎ LacksYear years start year
 
 -- so of the year of one of these lines
 abbrev pub LacksOne : Account → List (ℕ × Cents) → List (ℕ × Cents) → List YearLine → Type 0

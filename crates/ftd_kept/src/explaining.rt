@@ -15,10 +15,10 @@ ghost use Rattle.ftd_rules.specs.Laws.{IsFirstCounted};
 
 use crate::paid::obligation_payments;
 use crate::schedules::schedule_on;
-use ftd_days::{Cents, Day, Holidays};
+use ftd_days::{Cents, Day, Holidays, LAST_OPEN_YEAR, LAST_YEAR};
 use ftd_entries::{has_year, known_account};
 use ftd_machine::{
-    AccountName, Answer, CountedDay, CountedDays, DayKind, Explained, Explanation, Facts,
+    AccountName, Answer, CountedDay, CountedDays, DayKind, ExplainedDay, Explanation, Facts,
     KeptPayment, KeptPayments, Reply, RunningSum, RunningSums, status_check,
 };
 use ftd_rules::{AMOUNTS_END, DaySum, Form, Obligation, Rule, YearLine, return_due};
@@ -35,7 +35,7 @@ pub fn explain<S: Alter>(
 ) -> Result<Answer, StoreFault>
     ensures call { Calls S.Store tx.old tx.new result (Serves (Question (Explain name.now day))) }
 {
-    let Ok(owner) = AccountName::copied(alloc, name) else {
+    let Ok(owner) = AccountName::copy_of(alloc, name) else {
         return tx.give_up(StoreFault::Memory);
     };
     let account = known_account(tx, alloc, name)?;
@@ -46,7 +46,7 @@ pub fn explain<S: Alter>(
         Err(answer) => return Ok(answer),
     };
     let found = explained(tx, alloc, name, account.form, &lines, day)?;
-    Ok(Ok(Reply::Told(Facts::Explained(Explained {
+    Ok(Ok(Reply::Told(Facts::Explained(ExplainedDay {
         account: owner,
         day,
         found,
@@ -125,11 +125,15 @@ fn explanation<S: Alter>(
 /// The year in which the obligation begins. None where that, or the one in which it ends, comes
 /// after 2098, or it is due after 2099: such an obligation is none that an account has.
 fn open_year(obligation: &Obligation) -> Option<u32>
-    ensures { IfSome result (λ year. (year ≡ year_of obligation.now.first) × (year ≤ 2098)
-        × (year_of obligation.now.last ≤ 2098) × (year_of obligation.now.due ≤ 2099)) }
+    ensures { IfSome result (λ year. (year ≡ year_of obligation.now.first) × (year ≤ LAST_OPEN_YEAR)
+        × (year_of obligation.now.last ≤ LAST_OPEN_YEAR)
+        × (year_of obligation.now.due ≤ LAST_YEAR)) }
 {
     let year = obligation.first.year();
-    if year > 2098 || obligation.last.year() > 2098 || obligation.due.year() > 2099 {
+    if year > LAST_OPEN_YEAR
+        || obligation.last.year() > LAST_OPEN_YEAR
+        || obligation.due.year() > LAST_YEAR
+    {
         return None;
     }
     Some(year)
@@ -184,9 +188,9 @@ fn told(
     paydays: Vec<RunningSum>,
     payments: Vec<KeptPayment>,
 ) -> Result<Explanation, StoreFault>
-    requires first { year_of obligation.first ≤ 2098 }
-    requires last { year_of obligation.last ≤ 2098 }
-    requires due { year_of obligation.due ≤ 2099 }
+    requires first { year_of obligation.first ≤ LAST_OPEN_YEAR }
+    requires last { year_of obligation.last ≤ LAST_OPEN_YEAR }
+    requires due { year_of obligation.due ≤ LAST_YEAR }
     ensures { IfOk result (IsToldBy form lines.now (holidays_of holidays.now) obligation
         paydays.items payments.items) }
 {
@@ -211,8 +215,8 @@ fn counted_days(
     obligation: &Obligation,
     holidays: &Holidays,
 ) -> Result<Vec<CountedDay>, AllocError>
-    requires last { year_of obligation.now.last ≤ 2098 }
-    requires due { year_of obligation.now.due ≤ 2099 }
+    requires last { year_of obligation.now.last ≤ LAST_OPEN_YEAR }
+    requires due { year_of obligation.now.due ≤ LAST_YEAR }
     ensures { IfOk result (λ days.
         AreCounted (holidays_of holidays.now) obligation.now days.items) }
 {
@@ -230,7 +234,7 @@ fn counted_days(
 
 /// The first day that is counted to the obligation's due date.
 fn first_counted(obligation: &Obligation) -> Day
-    requires { year_of obligation.now.last ≤ 2098 }
+    requires { year_of obligation.now.last ≤ LAST_OPEN_YEAR }
     ensures { IsFirstCounted obligation.now.rule obligation.now.last result }
 {
     let last = obligation.last;

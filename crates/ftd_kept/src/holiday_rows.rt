@@ -21,7 +21,7 @@ pub(crate) fn all_holidays<S: Alter>(
     ensures call { Reads S.Store tx.old tx.new result
         (λ rows. KnowsHolidays year given.now rows.items) }
 {
-    let added = tx.added(alloc, year)?;
+    let added = tx.added_holidays(alloc, year)?;
     let changes = tx.holiday_changes(alloc, year)?;
     if !are_rising(&added) {
         return tx.give_up(StoreFault::Failed);

@@ -22,7 +22,7 @@ pub fn schedule_b<S: Alter>(
     ensures call { Calls S.Store tx.old tx.new result
         (Serves (Question (ScheduleB name.now quarter))) }
 {
-    let Ok(owner) = AccountName::copied(alloc, name) else {
+    let Ok(owner) = AccountName::copy_of(alloc, name) else {
         return tx.give_up(StoreFault::Memory);
     };
     let account = known_account(tx, alloc, name)?;

@@ -19,7 +19,7 @@ mod year_rows;
 
 pub use crate::explaining::explain;
 pub use crate::liable::schedule_b;
-pub use crate::lists::{accounts, holidays, reported, runs, years};
+pub use crate::lists::{accounts, holidays, reported_totals, runs, years};
 pub use crate::paid::payments;
 pub use crate::schedules::status;
-pub use crate::unapplied_rows::unapplied;
+pub use crate::unapplied_rows::unapplied_money;

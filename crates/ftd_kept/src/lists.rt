@@ -1,7 +1,7 @@
 //! What is kept, by what the tables have.
 
 ghost use Rattle.ftd_store.specs.Frame.{Calls, Reads};
-ghost use Rattle.ftd_machine.specs.declared.requests.Kept.TheVariants as kept;
+ghost use Rattle.ftd_machine.specs.declared.requests.KeptList.TheVariants as kept;
 ghost use Rattle.ftd_machine.specs.declared.requests.Question.TheVariants as questions;
 ghost use Rattle.ftd_machine.specs.declared.requests.Request.TheVariants.{Question};
 ghost use Rattle.ftd_entries.specs.Words.{Serves};
@@ -37,7 +37,7 @@ pub fn years<S: Alter>(tx: &mut Tx<'_, S>, alloc: Global, name: &str) -> Result<
     ensures call { Calls S.Store tx.old tx.new result
         (Serves (Question (questions.Kept (kept.Years name.now)))) }
 {
-    let Ok(owner) = AccountName::copied(alloc, name) else {
+    let Ok(owner) = AccountName::copy_of(alloc, name) else {
         return tx.give_up(StoreFault::Memory);
     };
     let found = known_account(tx, alloc, name)?;
@@ -128,7 +128,7 @@ fn totals<S: Alter>(
 }
 
 /// Tells the totals that an account reported.
-pub fn reported<S: Alter>(
+pub fn reported_totals<S: Alter>(
     tx: &mut Tx<'_, S>,
     alloc: Global,
     name: &str,
@@ -136,7 +136,7 @@ pub fn reported<S: Alter>(
     ensures call { Calls S.Store tx.old tx.new result
         (Serves (Question (questions.Kept (kept.Reported name.now)))) }
 {
-    let Ok(owner) = AccountName::copied(alloc, name) else {
+    let Ok(owner) = AccountName::copy_of(alloc, name) else {
         return tx.give_up(StoreFault::Memory);
     };
     let found = known_account(tx, alloc, name)?;
@@ -186,7 +186,7 @@ pub fn runs<S: Alter>(
     ensures call { Calls S.Store tx.old tx.new result
         (Serves (Question (questions.Kept (kept.Runs name.now quarter)))) }
 {
-    let Ok(owner) = AccountName::copied(alloc, name) else {
+    let Ok(owner) = AccountName::copy_of(alloc, name) else {
         return tx.give_up(StoreFault::Memory);
     };
     let account = known_account(tx, alloc, name)?;

@@ -1,7 +1,7 @@
 //! The payments of an account: those for a quarter, and those that count for an obligation.
 
 ghost use Rattle.ftd_store.specs.Frame.{Calls, Reads};
-ghost use Rattle.ftd_machine.specs.declared.requests.Kept.TheVariants as kept;
+ghost use Rattle.ftd_machine.specs.declared.requests.KeptList.TheVariants as kept;
 ghost use Rattle.ftd_machine.specs.declared.requests.Question.TheVariants as questions;
 ghost use Rattle.ftd_machine.specs.declared.requests.Request.TheVariants.{Question};
 ghost use Rattle.ftd_entries.specs.Words.{Serves};
@@ -29,7 +29,7 @@ pub fn payments<S: Alter>(
     ensures call { Calls S.Store tx.old tx.new result
         (Serves (Question (questions.Kept (kept.Payments name.now quarter)))) }
 {
-    let Ok(owner) = AccountName::copied(alloc, name) else {
+    let Ok(owner) = AccountName::copy_of(alloc, name) else {
         return tx.give_up(StoreFault::Memory);
     };
     let account = known_account(tx, alloc, name)?;

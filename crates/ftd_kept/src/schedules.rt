@@ -16,7 +16,7 @@ ghost use Rattle.ftd_kept.specs.Schedules.{AreScheduled, IsScheduleBy, IsStatusB
 use ftd_days::Day;
 use ftd_entries::{has_year, known_account};
 use ftd_machine::{Answer, DaySchedule, Facts, Reason, Refusal, Reply, status_check};
-use ftd_rules::{Kind, YearLine};
+use ftd_rules::{Kind, MONTHLY_LIMIT, YearLine};
 use ftd_store::{StoreFault, Tx};
 use sqlite::Alter;
 use std::alloc::Global;
@@ -99,7 +99,7 @@ fn reason(lines: &[YearLine], line: &YearLine, kind: Kind) -> Reason
     ensures { (day : ℕ) (liability : ℕ → ℕ → ℕ) → HasSchedule lines.now liability line.now
         → HasStatusOn line.now day kind → IsReason lines.now line.now kind result }
 {
-    if kind == Kind::Monthly || 5_000_000 < line.lookback.0 {
+    if kind == Kind::Monthly || MONTHLY_LIMIT < line.lookback.0 {
         return Reason::Lookback;
     }
     if let Some(turn) = turn_before(lines, line.year) {

@@ -20,7 +20,7 @@ use crate::payment_rows::held_by;
 use ftd_days::{Cents, Day};
 use ftd_entries::{all_accounts, payments_of};
 use ftd_machine::{
-    AccountName, Answer, Facts, Reply, Unapplied, UnappliedRow, UnappliedRows, unapplied_check,
+    AccountName, Answer, Facts, Reply, UnappliedList, UnappliedRow, UnappliedRows, unapplied_check,
 };
 use ftd_rules::{AMOUNTS_END, Obligation, Payment, paid_by};
 use ftd_store::{NumberedPayment, StoreFault, Tx};
@@ -275,12 +275,13 @@ fn are_unapplied_in_order(rows: &[UnappliedRow]) -> bool
 
 /// Tells which money counts for nothing, over all accounts, of the days up to one. `Failed` also
 /// where the rows do not go on by account, first day and number.
-pub fn unapplied<S: Alter>(
+pub fn unapplied_money<S: Alter>(
     tx: &mut Tx<'_, S>,
     alloc: Global,
     until: Day,
 ) -> Result<Answer, StoreFault>
-    ensures call { Calls S.Store tx.old tx.new result (Serves (Question (questions.Unapplied until))) }
+    ensures call { Calls S.Store tx.old tx.new result
+        (Serves (Question (questions.Unapplied until))) }
 {
     let rows = all_unapplied(tx, alloc, until)?;
     if let Err(answer) = unapplied_check(until) {
@@ -289,7 +290,7 @@ pub fn unapplied<S: Alter>(
     if !are_unapplied_in_order(&rows) {
         return tx.give_up(StoreFault::Failed);
     }
-    Ok(Ok(Reply::Told(Facts::Unapplied(Unapplied {
+    Ok(Ok(Reply::Told(Facts::Unapplied(UnappliedList {
         until,
         rows: UnappliedRows::from_vec(rows),
     }))))

@@ -9,9 +9,9 @@ ghost use Rattle.ftd_kept.specs.Kept.{IsKeptYear, IsLookbackBy, KnowsYears, Lack
 ghost use Rattle.ftd_kept.specs.Kept.{LacksOne, LacksQuarter, LacksYear};
 ghost use Rattle.ftd_kept.specs.Kept.{quarter_figure, year_figure};
 
-use ftd_days::{Cents, Day, Quarter};
+use ftd_days::{Cents, Day, FIRST_YEAR, LAST_OPEN_YEAR, Quarter};
 use ftd_machine::{Account, KeptYear};
-use ftd_rules::{Form, YearLine, lookback, lookback_943};
+use ftd_rules::{Form, MOST_CENTS, YearLine, lookback, lookback_943};
 use ftd_store::{QuarterTotal, StoreFault, Tx, YearTotal};
 use sqlite::Alter;
 use std::alloc::{AllocError, Global};
@@ -123,7 +123,7 @@ fn lookback_total(
     ensures failed { OnErr result
         (LacksLookback account.now.form quarters.now years.now account.now.start year) }
 {
-    if year < 2001 || 2098 < year {
+    if year < FIRST_YEAR || LAST_OPEN_YEAR < year {
         return Err(StoreFault::Failed);
     }
     match account.form {
@@ -139,8 +139,8 @@ fn lookback_by_quarters(
     start: Day,
     year: u32,
 ) -> Result<Cents, StoreFault>
-    requires from { 2001 ≤ year }
-    requires to { year ≤ 2098 }
+    requires from { FIRST_YEAR ≤ year }
+    requires to { year ≤ LAST_OPEN_YEAR }
     ensures total { IfOk result (λ total. IsLookback quarters.now start year total.0) }
     ensures failed { OnErr result (LacksQuarter quarters.now start year) }
 {
@@ -155,16 +155,16 @@ fn lookback_by_quarters(
 
 /// Whether each of the totals is at most 999,999,999.99.
 fn are_amounts(figures: &[(Quarter, Cents)]) -> bool
-    ensures { IsTrue result ↔ All (λ figure. figure.1.0 ≤ 99_999_999_999) figures.now }
+    ensures { IsTrue result ↔ All (λ figure. figure.1.0 ≤ MOST_CENTS) figures.now }
 {
-    figures.iter().all(|figure| figure.1.0 <= 99_999_999_999)
+    figures.iter().all(|figure| figure.1.0 <= MOST_CENTS)
 }
 
 /// The lookback total of a year by these totals of years. `Failed` where that of the lookback
 /// period is missing.
 fn lookback_by_years(years: &[(u32, Cents)], start: Day, year: u32) -> Result<Cents, StoreFault>
-    requires from { 2001 ≤ year }
-    requires to { year ≤ 2098 }
+    requires from { FIRST_YEAR ≤ year }
+    requires to { year ≤ LAST_OPEN_YEAR }
     ensures total { IfOk result (λ total. IsYearLookback years.now start year total) }
     ensures failed { OnErr result (LacksYear years.now start year) }
 {

@@ -22,7 +22,7 @@ use Rattle.ftd_machine.specs.Told.{agenda_answer, due_answer, due_facts, owed_an
 use Rattle.ftd_machine.specs.declared.facts.Agenda.{Agenda as Agendas}
 use Rattle.ftd_machine.specs.declared.facts.DueList.{DueList as Lists}
 use Rattle.ftd_machine.specs.declared.facts.Facts.{Facts}
-use Rattle.ftd_machine.specs.declared.facts.Owed.{Owed as OwedList}
+use Rattle.ftd_machine.specs.declared.facts.OwedList.{OwedList}
 use Rattle.ftd_machine.specs.declared.facts.Facts.TheVariants as facts
 use Rattle.ftd_machine.specs.declared.replies.Reply.TheVariants as reply
 use Rattle.ftd_machine.specs.declared.requests.Question.{Question as Questions}

@@ -24,9 +24,9 @@ use Rattle.ftd_machine.specs.declared.kept.KeptPayment.{KeptPayment}
 use Rattle.ftd_machine.specs.declared.kept.KeptRun.{KeptRun}
 use Rattle.ftd_machine.specs.declared.kept.KeptYear.{KeptYear}
 use Rattle.ftd_machine.specs.declared.kept.KeptRows.TheVariants as rows
-use Rattle.ftd_machine.specs.declared.requests.Kept.{Kept}
-use Rattle.ftd_machine.specs.declared.requests.Kept.TheVariants.{Accounts, Years, Reported}
-use Rattle.ftd_machine.specs.declared.requests.Kept.TheVariants.{Holidays, Runs, Payments}
+use Rattle.ftd_machine.specs.declared.requests.KeptList.{KeptList}
+use Rattle.ftd_machine.specs.declared.requests.KeptList.TheVariants.{Accounts, Years, Reported}
+use Rattle.ftd_machine.specs.declared.requests.KeptList.TheVariants.{Holidays, Runs, Payments}
 use Rattle.ftd_machine.proofs.Single.{IsOnce, lookback_one, lines_of_one, owed_one}
 use Rattle.ftd_machine.proofs.Ordered.{ordered_one}
 use Rattle.ftd_machine.proofs.AgendaOrder.{names_once, three}
@@ -208,7 +208,7 @@ payments_one hs own name quarter a b once g h =
     (listed_one IsPaymentBefore (two_once day_paid_for payment_number) _ g.listed h.listed
     g.in_order h.in_order g.all also) ∙ sym h.told
 
-pub kept_one : (s : State) (kept : Kept) (a b : Answer)
+pub kept_one : (s : State) (kept : KeptList) (a b : Answer)
     → ((name : List ℕ) → IsOnce (entries_of s name))
     → TellsKept s kept a → TellsKept s kept b → a ≡ b
 kept_one s Accounts a b once g h = accounts_one s a b g h

@@ -39,9 +39,9 @@ use Rattle.ftd_machine.specs.declared.kept.KeptYear.{KeptYear}
 use Rattle.ftd_machine.specs.declared.kept.KeptTotal.TheVariants.{OfQuarter, OfYear}
 use Rattle.ftd_machine.specs.declared.kept.KeptRows.TheVariants as rows
 use Rattle.ftd_machine.specs.declared.replies.Refusal.TheVariants.{BadYear, CalendarMissing}
-use Rattle.ftd_machine.specs.declared.requests.Kept.{Kept}
-use Rattle.ftd_machine.specs.declared.requests.Kept.TheVariants.{Accounts, Years, Reported}
-use Rattle.ftd_machine.specs.declared.requests.Kept.TheVariants.{Holidays, Runs, Payments}
+use Rattle.ftd_machine.specs.declared.requests.KeptList.{KeptList}
+use Rattle.ftd_machine.specs.declared.requests.KeptList.TheVariants.{Accounts, Years, Reported}
+use Rattle.ftd_machine.specs.declared.requests.KeptList.TheVariants.{Holidays, Runs, Payments}
 use Rattle.ftd_machine.proofs.Heads.{gives_needs, skip_needs}
 use Rattle.ftd_machine.proofs.Members.{enrolled_of, found_some, some_of}
 use Rattle.ftd_machine.proofs.Lined.{owed_some}
@@ -426,7 +426,7 @@ given_of_holidays s year e =
     (skip_needs (can_have_calendar year) BadYear _ _
     (gives_needs (is_given s year) (CalendarMissing year) [])).fact e
 
-pub kept_told : (s : State) (kept : Kept)
+pub kept_told : (s : State) (kept : KeptList)
     → ((name : List ℕ) → (lines : List YearLine) × AreLinesOf (entries_of s name) lines)
     → first_of (kept_checks s kept) ≡ None → (answer : Answer) × TellsKept s kept answer
 kept_told s Accounts lines e = accounts_some s

@@ -29,9 +29,9 @@ use Rattle.ftd_machine.specs.declared.requests.Question.{Question}
 use Rattle.ftd_machine.specs.declared.requests.Question.TheVariants.{Status, Explain, DueList}
 use Rattle.ftd_machine.specs.declared.requests.Question.TheVariants.{ScheduleB, Agenda, Owed, Kept}
 use Rattle.ftd_machine.specs.declared.requests.Question.TheVariants.{Unapplied}
-use Rattle.ftd_machine.specs.declared.requests.Kept.{Kept as WhatIsKept}
-use Rattle.ftd_machine.specs.declared.requests.Kept.TheVariants.{Accounts, Years, Reported}
-use Rattle.ftd_machine.specs.declared.requests.Kept.TheVariants.{Holidays, Runs, Payments}
+use Rattle.ftd_machine.specs.declared.requests.KeptList.{KeptList}
+use Rattle.ftd_machine.specs.declared.requests.KeptList.TheVariants.{Accounts, Years, Reported}
+use Rattle.ftd_machine.specs.declared.requests.KeptList.TheVariants.{Holidays, Runs, Payments}
 use Rattle.ftd_machine.proofs.Heads.{gives_needs, skip_needs, skip_finds}
 use Rattle.ftd_machine.proofs.Single.{IsOnce, status_one, due_list_one, schedule_one}
 use Rattle.ftd_machine.proofs.Ordered.{ordered_one}
@@ -56,7 +56,7 @@ agree_on : (own name : List ℕ) (s t : State) → Some own ≡ Some name → Ag
 agree_on own name s t named agree =
     subst (λ x. AgreeOn x s t) (sym (ap (λ o. unwrap_or o own) named)) agree
 
-same_kept_checks : (s t : State) (kept : WhatIsKept) (name : List ℕ) → account_kept kept ≡ Some name
+same_kept_checks : (s t : State) (kept : KeptList) (name : List ℕ) → account_kept kept ≡ Some name
     → AgreeOn name s t → first_of (kept_checks t kept) ≡ first_of (kept_checks s kept)
 same_kept_checks s t Accounts name named agree = absurd cc
 same_kept_checks s t (Years own) name named agree =
@@ -73,7 +73,7 @@ same_kept_checks s t (Payments own quarter) name named agree =
     let agrees : AgreeOn own s t = agree_on own name s t named agree in
     ap (λ (e : Entries). first_of (kept_in_quarter_checks own quarter e.account)) agrees.own
 
-same_kept : (s t : State) (kept : WhatIsKept) (name : List ℕ) → account_kept kept ≡ Some name
+same_kept : (s t : State) (kept : KeptList) (name : List ℕ) → account_kept kept ≡ Some name
     → AgreeOn name s t → (answer : Answer) → TellsKept s kept answer → TellsKept t kept answer
 same_kept s t Accounts name named agree answer told = absurd cc
 same_kept s t (Years own) name named agree answer told =

@@ -62,12 +62,8 @@ IsPayBy holidays as_of x = IsDayFor x.form holidays as_of x.row x.row.verdict x.
 
 -- the row's verdict is that its deposit may be paid with the return
 abbrev pub is_with_return : Verdict → Bool
-is_with_return Met = false
 is_with_return WithReturn = true
-is_with_return Open = false
-is_with_return MadeUp = false
-is_with_return Short = false
-is_with_return Late = false
+is_with_return other = false
 
 -- whether the deposit may be paid with its return depends on a total that may still grow: the
 -- return period is not over, so that the deposit is to be paid by its own due date

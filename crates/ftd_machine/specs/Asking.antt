@@ -3,6 +3,7 @@
 use Rattle.std.specs.Prelude.{◌≡◌, ◌⊎◌, ◌≤◌, ◌<◌, ◌↔◌, ◌&&◌, ℕ, ◌-◌, ◌+◌, ◌==◌, Bool, true, false}
 use Rattle.std.specs.Prelude.{List, Option, None, Some, IsTrue, ⊤}
 use Rattle.std.specs.List.{list_any}
+use Rattle.ftd_rules.specs.declared.TheConstants.{MONTHLY_LIMIT}
 use Rattle.ftd_days.specs.Calendar.{year_of, quarter_of, quarter_start}
 use Rattle.ftd_days.specs.declared.cents.Cents.{Cents}
 use Rattle.ftd_rules.specs.declared.Form.{Form}
@@ -35,7 +36,7 @@ use Rattle.ftd_machine.specs.Told.{status_answer, due_answer, days_answer}
 -- the lookback total alone gives the schedule: monthly, or more than 50,000.00
 abbrev pub IsByLookback : YearLine → Kind → Type 0
 IsByLookback line kind.Monthly = ⊤
-IsByLookback line kind.Semiweekly = 5_000_000 < line.lookback.0
+IsByLookback line kind.Semiweekly = MONTHLY_LIMIT < line.lookback.0
 
 -- the turn of the year before
 abbrev pub IsTurnBefore : List YearLine → YearLine → ℕ → Type 0

@@ -23,9 +23,9 @@ use Rattle.ftd_machine.specs.declared.kept.KeptTotal.TheVariants.{OfQuarter, OfY
 use Rattle.ftd_machine.specs.declared.kept.KeptYear.{KeptYear}
 use Rattle.ftd_machine.specs.declared.kept.KeptRows.TheVariants as rows
 use Rattle.ftd_machine.specs.Told.{kept_answer}
-use Rattle.ftd_machine.specs.declared.requests.Kept.{Kept}
-use Rattle.ftd_machine.specs.declared.requests.Kept.TheVariants.{Accounts, Years, Reported}
-use Rattle.ftd_machine.specs.declared.requests.Kept.TheVariants.{Holidays, Runs, Payments}
+use Rattle.ftd_machine.specs.declared.requests.KeptList.{KeptList}
+use Rattle.ftd_machine.specs.declared.requests.KeptList.TheVariants.{Accounts, Years, Reported}
+use Rattle.ftd_machine.specs.declared.requests.KeptList.TheVariants.{Holidays, Runs, Payments}
 
 -- ---- accounts
 
@@ -178,7 +178,7 @@ pub record ArePayments (holidays : List ℕ) (own : Entries) (name : List ℕ) (
 -- ---- the question
 
 -- its checks, in their order
-abbrev pub kept_checks : State → Kept → List (Option Answer)
+abbrev pub kept_checks : State → KeptList → List (Option Answer)
 kept_checks s Accounts = []
 kept_checks s (Years name) = kept_of_checks name (entries_of s name).account
 kept_checks s (Reported name) = kept_of_checks name (entries_of s name).account
@@ -188,7 +188,7 @@ kept_checks s (Payments name quarter) =
     kept_in_quarter_checks name quarter (entries_of s name).account
 
 -- where they pass, this is the answer
-abbrev pub TellsKept : State → Kept → Answer → Type 0
+abbrev pub TellsKept : State → KeptList → Answer → Type 0
 TellsKept s Accounts answer = AreAccounts s answer
 TellsKept s (Years name) answer = AreYears (entries_of s name) name answer
 TellsKept s (Reported name) answer = AreTotals (entries_of s name) name answer
@@ -198,7 +198,7 @@ TellsKept s (Payments name quarter) answer =
     ArePayments (holidays s) (entries_of s name) name quarter answer
 
 -- the account that it names; all accounts and the holidays of a year name none
-abbrev pub account_kept : Kept → Option (List ℕ)
+abbrev pub account_kept : KeptList → Option (List ℕ)
 account_kept Accounts = None
 account_kept (Years name) = Some name
 account_kept (Reported name) = Some name

@@ -3,11 +3,11 @@ use Rattle.std.specs.Prelude.{ℕ, ◌==◌, ◌&&◌, nat_le, nat_lt, Bool, Lis
 use Rattle.std.specs.List.{list_all}
 use Rattle.ftd_days.specs.Calendar.{year_of}
 use Rattle.ftd_days.specs.declared.cents.Cents.{Cents}
-use Rattle.ftd_rules.specs.declared.TheConstants.{AMOUNTS_END}
-use Rattle.ftd_machine.specs.declared.limits.TheConstants.{MOST_CENTS, MOST_ENTRIES, MOST_HOLIDAYS}
-use Rattle.ftd_machine.specs.declared.limits.TheConstants.{MOST_NUMBER, FIRST_YEAR}
-use Rattle.ftd_machine.specs.declared.limits.TheConstants.{FIRST_REPORTED_YEAR, LAST_OPEN_YEAR}
-use Rattle.ftd_machine.specs.declared.limits.TheConstants.{LAST_YEAR}
+use Rattle.ftd_days.specs.declared.limits.TheConstants.{FIRST_YEAR, LAST_OPEN_YEAR, LAST_YEAR}
+use Rattle.ftd_days.specs.declared.limits.TheConstants.{MOST_HOLIDAYS}
+use Rattle.ftd_rules.specs.declared.TheConstants.{AMOUNTS_END, MOST_CENTS}
+use Rattle.ftd_machine.specs.declared.limits.TheConstants.{FIRST_REPORTED_YEAR, MOST_ENTRIES}
+use Rattle.ftd_machine.specs.declared.limits.TheConstants.{MOST_NUMBER}
 use Rattle.ftd_rules.specs.declared.run.PayRun.{PayRun}
 
 -- the year is one of these

@@ -18,12 +18,9 @@ use Rattle.ftd_machine.specs.declared.lists.AgendaRow.{AgendaRow}
 
 -- the deposit is short or late
 abbrev pub IsMissed : Verdict → Type 0
-IsMissed Met = ⊥
-IsMissed WithReturn = ⊥
-IsMissed Open = ⊥
-IsMissed MadeUp = ⊥
 IsMissed Short = ⊤
 IsMissed Late = ⊤
+IsMissed other = ⊥
 
 -- The desk goes on after the as-of day of a row: of the row's account pay runs and payments alone
 -- change, and no holiday does. The liability of each payday up to the as-of day stays, and so does

@@ -31,8 +31,8 @@ pub record Spans (rows : List Obligation) (from to : ℕ) : Type 0 where
   pub to_is : to ≡ last.last
   pub within : (o : Obligation) → Has rows o → (from ≤ o.first) × (o.last ≤ to)
 
--- the rows that were removed and those that were added, and their days; the payday twice where there
--- are none
+-- the rows that were removed and those that were added, and their days; the payday twice where
+-- there are none
 pub record Differ (before after : List Obligation) (payday : ℕ) (d : Difference) : Type 0 where
   pub are_removed : AreOnlyIn before after d.removed
   pub are_added : AreOnlyIn after before d.added

@@ -17,7 +17,7 @@ use Rattle.ftd_machine.specs.Unapplied.{IsUnapplied}
 use Rattle.ftd_machine.specs.Kept.{kept_checks, TellsKept, account_kept}
 use Rattle.ftd_machine.specs.declared.facts.Facts.{Facts}
 use Rattle.ftd_machine.specs.declared.facts.Facts.TheVariants as facts
-use Rattle.ftd_machine.specs.declared.requests.Kept.{Kept as KeptThings}
+use Rattle.ftd_machine.specs.declared.requests.KeptList.{KeptList}
 use Rattle.ftd_machine.specs.declared.requests.Question.{Question}
 use Rattle.ftd_machine.specs.declared.requests.Question.TheVariants.{Status, Explain, DueList}
 use Rattle.ftd_machine.specs.declared.requests.Question.TheVariants.{ScheduleB, Agenda, Owed, Kept}
@@ -65,12 +65,7 @@ Tells s (Kept kept) answer = TellsKept s kept answer
 abbrev pub AreBounded : Facts → Type 0
 AreBounded (facts.Due list) = sum_by amount_of list.rows < amounts_end
 AreBounded (facts.Days list) = sum_by cents_of list.sums < amounts_end
-AreBounded (facts.Status schedule) = ⊤
-AreBounded (facts.Explained explained) = ⊤
-AreBounded (facts.Agenda agenda) = ⊤
-AreBounded (facts.Owed owed) = ⊤
-AreBounded (facts.Unapplied unapplied) = ⊤
-AreBounded (facts.Kept rows) = ⊤
+AreBounded other = ⊤
 
 -- the account that a question names; what is due over all accounts names none
 abbrev pub account_asked : Question → Option (List ℕ)
@@ -89,17 +84,11 @@ AsksOf question account = account_asked question ≡ Some account
 
 -- the account and the quarter whose due list is asked for, if one is
 abbrev pub due_list_of : Question → Option (List ℕ × ℕ)
-due_list_of (Status name day) = None
-due_list_of (Explain name day) = None
 due_list_of (DueList name quarter as_of) = Some (name, quarter)
-due_list_of (ScheduleB name quarter) = None
-due_list_of (Agenda from to as_of) = None
-due_list_of (Owed until as_of) = None
-due_list_of (Unapplied until) = None
-due_list_of (Kept kept) = None
+due_list_of other = None
 
 -- the request that asks what is kept
-abbrev pub kept_asked : KeptThings → Request
+abbrev pub kept_asked : KeptList → Request
 kept_asked kept = request.Question (Kept kept)
 
 -- the question that a request is, if it is one

@@ -1,7 +1,7 @@
 -- The numbers and the names of the refusals, and what they name.
 use Rattle.std.specs.Prelude.{ℕ, Bool, true, false, List, codes}
-use Rattle.ftd_machine.specs.declared.replies.Named.{Named}
-use Rattle.ftd_machine.specs.declared.replies.Named.TheVariants as named
+use Rattle.ftd_machine.specs.declared.replies.Subject.{Subject}
+use Rattle.ftd_machine.specs.declared.replies.Subject.TheVariants as subject
 use Rattle.ftd_machine.specs.declared.replies.Refusal.{Refusal}
 use Rattle.ftd_machine.specs.declared.replies.Refusal.TheVariants.{BadName, BadYear, BadDay}
 use Rattle.ftd_machine.specs.declared.replies.Refusal.TheVariants.{BadCents, BadCalendar, BadNumber}
@@ -82,64 +82,15 @@ name_text AccountInUse = codes "AccountInUse"
 
 -- a failure, and no refusal: there was no memory, or the store failed
 abbrev pub is_failure : Refusal → Bool
-is_failure BadName = false
-is_failure BadYear = false
-is_failure BadDay = false
-is_failure BadCents = false
-is_failure BadCalendar = false
-is_failure BadNumber = false
-is_failure UnknownAccount = false
-is_failure AccountDiffers = false
-is_failure CalendarDiffers = false
-is_failure QuarterDiffers = false
-is_failure RunDiffers = false
-is_failure PaymentDiffers = false
-is_failure UnknownRun = false
-is_failure UnknownPayment = false
-is_failure BeforeStart = false
-is_failure (CalendarMissing year) = false
-is_failure (QuarterMissing quarter) = false
-is_failure (YearNotOpen year) = false
-is_failure TooManyRuns = false
-is_failure TooManyPayments = false
 is_failure Memory = true
 is_failure Store = true
-is_failure WrongForm = false
-is_failure YearDiffers = false
-is_failure (YearMissing year) = false
-is_failure CorrectionDiffers = false
-is_failure (NumberSkipped count) = false
-is_failure NoHoliday = false
-is_failure AccountInUse = false
+is_failure other = false
 
 -- what it names
-abbrev pub named_by : Refusal → Named
-named_by BadName = named.Nothing
-named_by BadYear = named.Nothing
-named_by BadDay = named.Nothing
-named_by BadCents = named.Nothing
-named_by BadCalendar = named.Nothing
-named_by BadNumber = named.Nothing
-named_by UnknownAccount = named.Nothing
-named_by AccountDiffers = named.Nothing
-named_by CalendarDiffers = named.Nothing
-named_by QuarterDiffers = named.Nothing
-named_by RunDiffers = named.Nothing
-named_by PaymentDiffers = named.Nothing
-named_by UnknownRun = named.Nothing
-named_by UnknownPayment = named.Nothing
-named_by BeforeStart = named.Nothing
-named_by (CalendarMissing year) = named.Year year
-named_by (QuarterMissing quarter) = named.Quarter quarter
-named_by (YearNotOpen year) = named.Year year
-named_by TooManyRuns = named.Nothing
-named_by TooManyPayments = named.Nothing
-named_by Memory = named.Nothing
-named_by Store = named.Nothing
-named_by WrongForm = named.Nothing
-named_by YearDiffers = named.Nothing
-named_by (YearMissing year) = named.Year year
-named_by CorrectionDiffers = named.Nothing
-named_by (NumberSkipped count) = named.Number count
-named_by NoHoliday = named.Nothing
-named_by AccountInUse = named.Nothing
+abbrev pub subject_of : Refusal → Subject
+subject_of (CalendarMissing year) = subject.Year year
+subject_of (QuarterMissing quarter) = subject.Quarter quarter
+subject_of (YearNotOpen year) = subject.Year year
+subject_of (YearMissing year) = subject.Year year
+subject_of (NumberSkipped count) = subject.Number count
+subject_of other = subject.Nothing

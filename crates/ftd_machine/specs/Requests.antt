@@ -18,7 +18,7 @@ use Rattle.ftd_rules.specs.Accounts.{is_account_name}
 use Rattle.ftd_machine.specs.Limits.{can_be_opened, can_be_reported, can_have_calendar, is_amount}
 use Rattle.ftd_machine.specs.Limits.{are_amounts, is_number, is_calendar}
 use Rattle.ftd_machine.specs.Limits.{most_holidays, most_entries}
-use Rattle.ftd_machine.specs.declared.limits.TheConstants.{LAST_OPEN_YEAR}
+use Rattle.ftd_days.specs.declared.limits.TheConstants.{LAST_OPEN_YEAR}
 use Rattle.ftd_machine.specs.declared.replies.Refusal.{Refusal}
 use Rattle.ftd_machine.specs.Checks.{Answer, needs, done_if, finds, meets, is_new}
 use Rattle.ftd_machine.specs.State.{Entries}

@@ -17,11 +17,11 @@ ghost use Rattle.ftd_machine.specs.Requests.{kept_in_quarter_checks};
 
 use crate::entries::{Account, ReturnPeriod};
 use crate::limits::{
-    LAST_OPEN_YEAR, MOST_ENTRIES, MOST_HOLIDAYS, are_amounts, can_be_opened, can_be_reported,
-    can_have_calendar, is_amount, is_before_end, is_calendar, is_number,
+    MOST_ENTRIES, are_amounts, can_be_opened, can_be_reported, can_have_calendar, is_amount,
+    is_before_end, is_calendar, is_number,
 };
 use crate::replies::{Refusal, Reply};
-use ftd_days::{Cents, Day, Quarter};
+use ftd_days::{Cents, Day, LAST_OPEN_YEAR, MOST_HOLIDAYS, Quarter};
 use ftd_rules::{Form, PayRun, Payment, Voidable, is_account_name};
 
 /// What a request is answered.

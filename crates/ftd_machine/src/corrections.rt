@@ -10,9 +10,9 @@ ghost use Rattle.ftd_machine.specs.Requests.{same_beginning};
 
 use crate::checks::{Answer, is_form, known_as, needs};
 use crate::entries::{Account, Beginning, ReturnPeriod};
-use crate::limits::{LAST_OPEN_YEAR, can_be_reported, can_have_calendar, is_amount, is_number};
+use crate::limits::{can_be_reported, can_have_calendar, is_amount, is_number};
 use crate::replies::Refusal;
-use ftd_days::{Cents, Day};
+use ftd_days::{Cents, Day, LAST_OPEN_YEAR};
 use ftd_rules::is_account_name;
 
 /// The number is the next one of the corrections, of which there are so many.

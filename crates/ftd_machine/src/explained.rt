@@ -1,10 +1,9 @@
 //! Why an obligation is so, as it is told.
 
 use crate::kept::KeptPayments;
-use crate::lists::ListOf;
 use crate::replies::Reason;
 use ftd_days::{Cents, Day};
-use ftd_rules::{Kind, Obligation};
+use ftd_rules::{Kind, ListOf, Obligation};
 
 /// A payday of an obligation. Amounts are in cents.
 #[derive(Clone, Copy, Debug, PartialEq, Eq)]

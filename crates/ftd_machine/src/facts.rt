@@ -24,7 +24,7 @@ pub struct DaySchedule {
 
 /// Why the obligation of an account is so whose deposit period holds a day.
 #[derive(Drop)]
-pub struct Explained {
+pub struct ExplainedDay {
     /// The account.
     pub account: AccountName,
     /// The day.
@@ -72,7 +72,7 @@ pub struct Agenda {
 
 /// What is due until a day over all accounts, and not paid as of a day.
 #[derive(Drop)]
-pub struct Owed {
+pub struct OwedList {
     /// The day until which it is due.
     pub until: Day,
     /// The day as of which it is told.
@@ -83,7 +83,7 @@ pub struct Owed {
 
 /// Money that counts for nothing, over all accounts, of the days up to one.
 #[derive(Drop)]
-pub struct Unapplied {
+pub struct UnappliedList {
     /// The last of the days.
     pub until: Day,
     /// Its rows, by account, first day and number.
@@ -96,7 +96,7 @@ pub enum Facts {
     /// The deposit schedule of a day.
     Status(DaySchedule),
     /// Why an obligation is so.
-    Explained(Explained),
+    Explained(ExplainedDay),
     /// A due list.
     Due(DueList),
     /// The liability of a quarter by day.
@@ -104,9 +104,9 @@ pub enum Facts {
     /// What is due between two days over all accounts.
     Agenda(Agenda),
     /// What is due until a day over all accounts, and not paid.
-    Owed(Owed),
+    Owed(OwedList),
     /// Money that counts for nothing, over all accounts.
-    Unapplied(Unapplied),
+    Unapplied(UnappliedList),
     /// What is kept.
     Kept(KeptRows),
 }
@@ -120,11 +120,6 @@ pub(crate) fn are_bounded(facts: &Facts) -> bool
     match facts {
         Facts::Due(list) => are_rows_bounded(list.rows.as_slice()),
         Facts::Days(list) => are_sums_bounded(list.sums.as_slice()),
-        Facts::Status(_)
-        | Facts::Explained(_)
-        | Facts::Agenda(_)
-        | Facts::Owed(_)
-        | Facts::Unapplied(_)
-        | Facts::Kept(_) => true,
+        _ => true,
     }
 }

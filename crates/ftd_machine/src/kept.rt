@@ -1,9 +1,9 @@
 //! What is kept, as it is told.
 
 use crate::entries::Account;
-use crate::lists::{AccountName, ListOf};
+use crate::lists::AccountName;
 use ftd_days::{Cents, Day, Quarter};
-use ftd_rules::{PayRun, Payment, YearLine};
+use ftd_rules::{ListOf, PayRun, Payment, YearLine};
 
 /// An account that is enrolled.
 #[derive(Drop)]

@@ -29,18 +29,17 @@ pub use crate::explained::{
     CountedDay, CountedDays, DayKind, Explanation, RunningSum, RunningSums,
 };
 pub use crate::facts::{
-    Agenda, DaySchedule, DueList, Explained, Facts, LiabilityByDay, Owed, Unapplied,
+    Agenda, DaySchedule, DueList, ExplainedDay, Facts, LiabilityByDay, OwedList, UnappliedList,
 };
 pub use crate::kept::{
     KeptAccount, KeptAccounts, KeptHoliday, KeptHolidays, KeptPayment, KeptPayments, KeptRows,
     KeptRun, KeptRuns, KeptTotal, KeptTotals, KeptYear, KeptYears,
 };
 pub use crate::limits::{
-    FIRST_REPORTED_YEAR, FIRST_YEAR, LAST_OPEN_YEAR, LAST_YEAR, MOST_CENTS, MOST_ENTRIES,
-    MOST_HOLIDAYS, MOST_NUMBER, are_rising, are_sums_bounded,
+    FIRST_REPORTED_YEAR, MOST_ENTRIES, MOST_NUMBER, are_rising, are_sums_bounded,
 };
 pub use crate::lists::{
-    AccountName, AgendaRow, AgendaRows, DaySums, Days, DueRows, ListOf, UnappliedRow, UnappliedRows,
+    AccountName, AgendaRow, AgendaRows, DaySums, Days, DueRows, UnappliedRow, UnappliedRows,
 };
-pub use crate::replies::{Difference, Named, Reason, Refusal, Reply, is_bounded};
-pub use crate::requests::{Correction, Entry, Kept, Question, Request};
+pub use crate::replies::{Difference, Reason, Refusal, Reply, Subject, is_bounded};
+pub use crate::requests::{Correction, Entry, KeptList, Question, Request};

@@ -9,17 +9,11 @@ ghost use Rattle.ftd_machine.specs.Limits.{amounts_end, are_amounts, is_amount};
 ghost use Rattle.ftd_machine.specs.Limits.{is_number, are_rising, is_calendar};
 ghost use Rattle.ftd_machine.specs.Limits.{can_be_opened, can_be_reported, can_have_calendar};
 
-use ftd_days::{Cents, Day, Quarter};
-use ftd_rules::{AMOUNTS_END, DaySum, DueRow, PayRun};
+use ftd_days::{Cents, Day, FIRST_YEAR, LAST_OPEN_YEAR, LAST_YEAR, MOST_HOLIDAYS, Quarter};
+use ftd_rules::{AMOUNTS_END, DaySum, DueRow, MOST_CENTS, PayRun};
 
 /// The most runs of an account, and the most payments, voided ones too.
 pub const MOST_ENTRIES: u32 = 20_000;
-
-/// The most holidays of a year, those that were given and those that were added.
-pub const MOST_HOLIDAYS: usize = 60;
-
-/// The largest amount that a request may name, in cents.
-pub const MOST_CENTS: u64 = 99_999_999_999;
 
 /// The greatest number of a run, of a payment, or of a correction.
 pub const MOST_NUMBER: u32 = 999_999_999;
@@ -27,16 +21,6 @@ pub const MOST_NUMBER: u32 = 999_999_999;
 /// The first year whose total may be reported: a lookback period begins up to two years before the
 /// year that it is for.
 pub const FIRST_REPORTED_YEAR: u32 = 1999;
-
-/// The first year that may be opened, and whose holidays may be given.
-pub const FIRST_YEAR: u32 = 2001;
-
-/// The last year that may be opened, and whose total may be reported.
-pub const LAST_OPEN_YEAR: u32 = 2098;
-
-/// The last year whose holidays may be given. Days on which something is paid or asked for lie in
-/// it or before.
-pub const LAST_YEAR: u32 = 2099;
 
 /// Whether the year may be opened.
 pub(crate) fn can_be_opened(year: u32) -> bool

@@ -5,7 +5,7 @@ ghost use Rattle.std.specs.String.{string_bytes};
 ghost use Rattle.ftd_machine.specs.Agenda.{depends_on_total};
 
 use ftd_days::{Cents, Day};
-use ftd_rules::{DaySum, DueRow, Form, Verdict};
+use ftd_rules::{DaySum, DueRow, Form, ListOf, Verdict};
 use std::alloc::{AllocError, Global};
 use std::marker::Model;
 
@@ -33,7 +33,7 @@ impl AccountName {
     }
 
     /// A copy of the text as a name. An error if there is no memory.
-    pub fn copied(alloc: Global, name: &str) -> Result<AccountName, AllocError>
+    pub fn copy_of(alloc: Global, name: &str) -> Result<AccountName, AllocError>
         ensures { IfOk result (λ copy. copy ≡ name.now) }
     {
         Ok(AccountName {
@@ -46,50 +46,6 @@ impl AccountName {
         ensures { result.now ≡ self.now }
     {
         &self.name
-    }
-
-    /// The name as a text that is owned.
-    pub fn into_string(self) -> String
-        ensures { string_bytes result ≡ self }
-    {
-        self.name
-    }
-}
-
-/// A list, made from a vector and given back as one without taking memory.
-#[derive(Drop)]
-pub struct ListOf<T> {
-    items: Vec<T>,
-}
-
-impl<T> Model for ListOf<T> {
-    ghost use Rattle.std.specs.Prelude.{List};
-
-    ghost Value = { List T };
-
-    ghost view = { λ a. a.items.items };
-}
-
-impl<T> ListOf<T> {
-    /// The items of a vector, in its order.
-    pub fn from_vec(items: Vec<T>) -> ListOf<T>
-        ensures { result ≡ items.items }
-    {
-        ListOf { items }
-    }
-
-    /// The items as a vector.
-    pub fn into_vec(self) -> Vec<T>
-        ensures { result.items ≡ self }
-    {
-        self.items
-    }
-
-    /// The items.
-    pub fn as_slice(&self) -> &[T]
-        ensures { result.now ≡ self.now }
-    {
-        &self.items
     }
 }
 

@@ -43,8 +43,8 @@ pub enum Reply {
     Done,
     /// What was asked for was done before.
     Already,
-    /// How the account differs before and after a pay run that was posted or voided, or a total that
-    /// was corrected.
+    /// How the account differs before and after a pay run that was posted or voided, or a total
+    /// that was corrected.
     Posted(Difference),
     /// What was asked for.
     Told(Facts),
@@ -158,7 +158,7 @@ pub enum Refusal {
 
 /// What a refusal names.
 #[derive(Clone, Copy, Debug, PartialEq, Eq)]
-pub enum Named {
+pub enum Subject {
     /// Nothing.
     Nothing,
     /// A year whose calendar is not given, or that is not open or not reported.
@@ -170,7 +170,7 @@ pub enum Named {
 }
 
 impl Refusal {
-    ghost use Rattle.ftd_machine.specs.Refusals.{is_failure, name_text, named_by, number_of};
+    ghost use Rattle.ftd_machine.specs.Refusals.{is_failure, name_text, subject_of, number_of};
 
     /// The refusal's number, 1 to 29.
     pub fn number(self) -> u8
@@ -250,72 +250,20 @@ impl Refusal {
     pub fn is_failure(self) -> bool
         ensures { result ≡ is_failure self }
     {
-        match self {
-            Refusal::Memory | Refusal::Store => true,
-            Refusal::BadName
-            | Refusal::BadYear
-            | Refusal::BadDay
-            | Refusal::BadCents
-            | Refusal::BadCalendar
-            | Refusal::BadNumber
-            | Refusal::UnknownAccount
-            | Refusal::AccountDiffers
-            | Refusal::CalendarDiffers
-            | Refusal::QuarterDiffers
-            | Refusal::RunDiffers
-            | Refusal::PaymentDiffers
-            | Refusal::UnknownRun
-            | Refusal::UnknownPayment
-            | Refusal::BeforeStart
-            | Refusal::CalendarMissing(_)
-            | Refusal::QuarterMissing(_)
-            | Refusal::YearNotOpen(_)
-            | Refusal::TooManyRuns
-            | Refusal::TooManyPayments
-            | Refusal::WrongForm
-            | Refusal::YearDiffers
-            | Refusal::YearMissing(_)
-            | Refusal::CorrectionDiffers
-            | Refusal::NumberSkipped(_)
-            | Refusal::NoHoliday
-            | Refusal::AccountInUse => false,
-        }
+        matches!(self, Refusal::Memory | Refusal::Store)
     }
 
     /// The year, the quarter or the number that it names, if it names one.
-    pub fn named(self) -> Named
-        ensures { result ≡ named_by self }
+    pub fn subject(self) -> Subject
+        ensures { result ≡ subject_of self }
     {
         match self {
-            Refusal::CalendarMissing(year) => Named::Year(year),
-            Refusal::YearNotOpen(year) => Named::Year(year),
-            Refusal::YearMissing(year) => Named::Year(year),
-            Refusal::QuarterMissing(quarter) => Named::Quarter(quarter),
-            Refusal::NumberSkipped(count) => Named::Number(count),
-            Refusal::BadName
-            | Refusal::BadYear
-            | Refusal::BadDay
-            | Refusal::BadCents
-            | Refusal::BadCalendar
-            | Refusal::BadNumber
-            | Refusal::UnknownAccount
-            | Refusal::AccountDiffers
-            | Refusal::CalendarDiffers
-            | Refusal::QuarterDiffers
-            | Refusal::RunDiffers
-            | Refusal::PaymentDiffers
-            | Refusal::UnknownRun
-            | Refusal::UnknownPayment
-            | Refusal::BeforeStart
-            | Refusal::TooManyRuns
-            | Refusal::TooManyPayments
-            | Refusal::Memory
-            | Refusal::Store
-            | Refusal::WrongForm
-            | Refusal::YearDiffers
-            | Refusal::CorrectionDiffers
-            | Refusal::NoHoliday
-            | Refusal::AccountInUse => Named::Nothing,
+            Refusal::CalendarMissing(year) => Subject::Year(year),
+            Refusal::YearNotOpen(year) => Subject::Year(year),
+            Refusal::YearMissing(year) => Subject::Year(year),
+            Refusal::QuarterMissing(quarter) => Subject::Quarter(quarter),
+            Refusal::NumberSkipped(count) => Subject::Number(count),
+            _ => Subject::Nothing,
         }
     }
 }

@@ -167,7 +167,7 @@ pub enum Question {
         until: Day,
     },
     /// What is kept?
-    Kept(Kept),
+    Kept(KeptList),
 }
 
 impl Question {
@@ -189,7 +189,7 @@ impl Question {
 
 /// What of all that is kept is asked for.
 #[derive(Drop)]
-pub enum Kept {
+pub enum KeptList {
     /// The accounts, by name.
     Accounts,
     /// The open years of an account, by year, each with its lookback total, its opening and its
@@ -218,17 +218,17 @@ pub enum Kept {
     },
 }
 
-impl Kept {
+impl KeptList {
     /// The account that is asked for. All accounts and the holidays of a year have none.
     fn account(&self) -> Option<&AccountName>
         ensures { option_map (λ name. name.now) result ≡ account_kept self.now }
     {
         match self {
-            Kept::Years { account }
-            | Kept::Reported { account }
-            | Kept::Runs { account, .. }
-            | Kept::Payments { account, .. } => Some(account),
-            Kept::Accounts | Kept::Holidays { .. } => None,
+            KeptList::Years { account }
+            | KeptList::Reported { account }
+            | KeptList::Runs { account, .. }
+            | KeptList::Payments { account, .. } => Some(account),
+            KeptList::Accounts | KeptList::Holidays { .. } => None,
         }
     }
 }

@@ -1,5 +1,6 @@
 -- The correction of a figure, and what follows from it.
 use Rattle.std.specs.Prelude.{◌≡◌, ◌⊎◌, ◌≤◌, ◌+◌, ℕ, Bool, true, List, [], length, Ok, Vec}
+use Rattle.ftd_days.specs.declared.limits.TheConstants.{FIRST_YEAR, LAST_OPEN_YEAR}
 use Rattle.ftd_days.specs.declared.cents.Cents.{Cents}
 use Rattle.ftd_rules.specs.Lists.{Has}
 use Rattle.ftd_rules.specs.Lookback.{lookback_quarters}
@@ -48,7 +49,7 @@ ListsCorrectionsOf name (Year year) = ListsYearCorrections name year
 -- the quarter is one of the lookback period of no other year
 abbrev pub IsOnlyYearOf : ℕ → ℕ → Type 0
 IsOnlyYearOf quarter year =
-    (other : ℕ) → 2001 ≤ other → Has (lookback_quarters other) quarter → other ≡ year
+    (other : ℕ) → FIRST_YEAR ≤ other → Has (lookback_quarters other) quarter → other ≡ year
 
 -- the year in whose lookback period the total of a period counts, and in that of no other
 abbrev pub IsCountedIn : ReturnPeriod → ℕ → Type 0
@@ -66,7 +67,7 @@ unchanged first = record { from = first; to = first; removed = []; added = []; y
 
 -- the year may be open, and is
 abbrev pub IsFollowed : Bool → ℕ → Type 0
-IsFollowed is_open year = (is_open ≡ true) × (2001 ≤ year) × (year ≤ 2098)
+IsFollowed is_open year = (is_open ≡ true) × (FIRST_YEAR ≤ year) × (year ≤ LAST_OPEN_YEAR)
 
 -- it is entered. Where the year is open, it gets the lookback total that it has then, and the
 -- account's rows are repaired after that; else no other row changes.

@@ -23,7 +23,7 @@ pub fn add_holiday<S: Alter>(
 {
     let year = day.year();
     let calendar = tx.calendar(alloc, year)?;
-    let added = tx.added(alloc, year)?;
+    let added = tx.added_holidays(alloc, year)?;
     if let Err(answer) = add_holiday_check(day, calendar.as_deref(), &added) {
         return Ok(answer);
     }

@@ -13,7 +13,7 @@ ghost use Rattle.ftd_posting.specs.Books.{HasNoYear, IsBook, PostsBy, IsAbove, I
 ghost use Rattle.ftd_posting.specs.Books.{checks_by, first_year, greatest_known};
 
 use ftd_buckets::Window;
-use ftd_days::Day;
+use ftd_days::{Day, LAST_NUMBER};
 use ftd_entries::{has_year, is_open, known_account};
 use ftd_machine::{Account, Answer, Reply, post_check};
 use ftd_repairs::Ledger;
@@ -21,9 +21,6 @@ use ftd_rules::{PayRun, Voidable};
 use ftd_store::{StoreFault, Tx};
 use sqlite::Alter;
 use std::alloc::Global;
-
-/// 2199-12-31, the last day there is, as a number of days since 1970-01-01.
-const LAST_DAY: i32 = 84_005;
 
 /// The days from the first of the year to the last that there is. None before 1900 and after 2199.
 pub(crate) fn days_from(year: u32) -> Option<Window>
@@ -36,7 +33,7 @@ pub(crate) fn days_from(year: u32) -> Option<Window>
         return None;
     }
     let from = Day::first_of_month((year - 1900) * 12);
-    let to = Day::from_number(LAST_DAY)?;
+    let to = Day::from_number(LAST_NUMBER)?;
     Some(Window { from, to })
 }
 

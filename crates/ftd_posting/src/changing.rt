@@ -70,7 +70,7 @@ fn known_for_change<S: Alter>(
     ensures call { Reads S.Store tx.old tx.new result (KnowsForChange day) }
 {
     let calendar = tx.calendar(alloc, day.year())?;
-    let added = tx.added(alloc, day.year())?;
+    let added = tx.added_holidays(alloc, day.year())?;
     let words = words_of(tx, alloc, day)?;
     let Ok(count) = u32::try_from(words.len()) else {
         return tx.give_up(StoreFault::Failed);

@@ -10,7 +10,7 @@ ghost use Rattle.ftd_store.specs.Frame.{Rewrites, Writes, WritesOne};
 ghost use Rattle.ftd_posting.specs.Moved.{EntersDay, MovesOver, day_of, is_row_of, with_entered};
 
 use crate::reading::holidays_about;
-use ftd_days::{Day, Holidays};
+use ftd_days::{Day, Holidays, LAST_OPEN_YEAR, LAST_YEAR};
 use ftd_rules::{Obligation, due_of};
 use ftd_store::{AccountObligation, HolidayChange, StoreFault, Tx};
 use sqlite::Alter;
@@ -42,14 +42,14 @@ fn enter<S: Alter>(tx: &mut Tx<'_, S>, entry: &DayEntry) -> Result<(), StoreFaul
     ensures call { Writes S.Store tx.old tx.new result (with_entered entry.now) }
 {
     match entry {
-        DayEntry::Added(day) => tx.add_added(*day),
+        DayEntry::Added(day) => tx.add_added_holiday(*day),
         DayEntry::Changed(change) => tx.add_holiday_change(*change),
     }
 }
 
 /// The due date of the obligation by the holidays, where that is another one than it has.
 fn new_due(obligation: &Obligation, holidays: &Holidays) -> Option<Day>
-    requires { year_of obligation.now.last ≤ 2098 }
+    requires { year_of obligation.now.last ≤ LAST_OPEN_YEAR }
     ensures { MatchOption result (IsDue (holidays_of holidays.now) obligation.now.rule
         obligation.now.last obligation.now.due)
         (λ due. IsDue (holidays_of holidays.now) obligation.now.rule obligation.now.last due
@@ -89,7 +89,7 @@ fn move_over<S: Alter>(
 {
     let obligations = tx.due_over(alloc, day)?;
     for owed in &obligations {
-        if owed.obligation.last.year() > 2098 {
+        if owed.obligation.last.year() > LAST_OPEN_YEAR {
             return tx.give_up(StoreFault::Failed);
         }
         if let Some(due) = new_due(&owed.obligation, holidays) {
@@ -106,7 +106,7 @@ pub(crate) fn enter_and_move<S: Alter>(
     alloc: Global,
     entry: &DayEntry,
 ) -> Result<(), StoreFault>
-    requires { year_of (day_of entry.now) ≤ 2099 }
+    requires { year_of (day_of entry.now) ≤ LAST_YEAR }
     ensures call { Rewrites S.Store tx.old tx.new result (λ done. EntersDay entry.now) }
 {
     enter(tx, entry)?;

@@ -6,7 +6,7 @@ ghost use Rattle.ftd_days.specs.Holidays.{holidays_of};
 ghost use Rattle.ftd_store.specs.Frame.{Reads};
 ghost use Rattle.ftd_posting.specs.Known.{KnowsHolidays};
 
-use ftd_days::{Day, Holidays};
+use ftd_days::{Day, Holidays, LAST_YEAR};
 use ftd_store::{StoreFault, Tx};
 use sqlite::Alter;
 use std::alloc::Global;
@@ -18,7 +18,7 @@ pub(crate) fn holidays_about<S: Alter>(
     alloc: Global,
     day: Day,
 ) -> Result<Holidays, StoreFault>
-    requires { year_of day ≤ 2099 }
+    requires { year_of day ≤ LAST_YEAR }
     ensures call { Reads S.Store tx.old tx.new result
         (λ holidays. KnowsHolidays day (holidays_of holidays)) }
 {

@@ -10,9 +10,9 @@ ghost use Rattle.ftd_posting.specs.Correcting.{EntersTotal, IsCountedIn, IsOnlyY
 ghost use Rattle.ftd_posting.specs.Correcting.{with_corrected};
 
 use crate::books::days_from;
-use ftd_days::{Day, Quarter};
+use ftd_days::{Day, FIRST_YEAR, LAST_OPEN_YEAR, Quarter};
 use ftd_entries::lookback_total;
-use ftd_machine::{Account, Difference, FIRST_YEAR, LAST_OPEN_YEAR, ReturnPeriod};
+use ftd_machine::{Account, Difference, ReturnPeriod};
 use ftd_repairs::correct_lookback;
 use ftd_rules::{Obligations, YearLines};
 use ftd_store::{Correction, StoreFault, Tx};
@@ -47,7 +47,7 @@ fn year_counting(quarter: Quarter) -> u32
 
 /// The year in whose lookback period the total of the period counts, and in that of no other.
 pub(crate) fn year_counting_total(period: &ReturnPeriod) -> u32
-    ensures { year_of_period period.now ≤ 2098 → IsCountedIn period.now result }
+    ensures { year_of_period period.now ≤ LAST_OPEN_YEAR → IsCountedIn period.now result }
 {
     match period {
         ReturnPeriod::Quarter(quarter) => year_counting(*quarter),

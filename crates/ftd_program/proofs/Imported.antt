@@ -25,7 +25,7 @@ use Rattle.ftd_machine.specs.declared.replies.Refusal.TheVariants.{BadName, BadY
 use Rattle.ftd_machine.specs.declared.replies.Reply.{Reply}
 use Rattle.ftd_machine.specs.declared.facts.Facts.TheVariants as facts
 use Rattle.ftd_machine.specs.declared.replies.Reply.TheVariants as reply
-use Rattle.ftd_machine.specs.declared.requests.Kept.TheVariants as kept
+use Rattle.ftd_machine.specs.declared.requests.KeptList.TheVariants as kept
 use Rattle.ftd_machine.specs.declared.requests.Question.TheVariants as question
 use Rattle.ftd_machine.specs.declared.requests.Request.TheVariants.{Question}
 use Rattle.ftd_machine.proofs.Deciding.{either}

@@ -13,19 +13,21 @@ use Rattle.ftd_desk.specs.Desks.{Held, Keeps, KeepsIfOpen}
 use Rattle.ftd_desk.specs.Telling.{StandsAsBefore}
 use Rattle.ftd_desk.specs.Words.{Handles, MayLeave}
 use Rattle.ftd_machine.specs.Runs.{IsFault}
-use Rattle.ftd_replies.specs.declared.hints.Known.{Known}
-use Rattle.ftd_replies.specs.declared.hints.Known.TheVariants.{Nothing}
+use Rattle.ftd_replies.specs.declared.hints.HintFacts.{HintFacts}
+use Rattle.ftd_replies.specs.declared.hints.HintFacts.TheVariants.{Nothing}
 use Rattle.ftd_program.specs.Mending.{KnowsAfter, KnowsFor, KnowsOf, or_nothing}
 
 -- what was answered is known, or it is a fault
-pub known_of : (s : State) (request : Request) (refusal : Refusal) (known : Result Known Refusal)
+pub known_of : (s : State) (request : Request) (refusal : Refusal)
+    (known : Result HintFacts Refusal)
     → IfOk known (KnowsFor s request refusal) → IfErr known (λ fault. IsFault (Err fault))
     → KnowsOf s request (Err refusal) known
 known_of s request refusal (Ok known) knows faults = knows
 known_of s request refusal (Err fault) knows faults = faults
 
 -- nothing is known for want of memory and a fault of the store
-pub nothing_of : (s : State) (request : Request) (refusal : Refusal) (known : Result Known Refusal)
+pub nothing_of : (s : State) (request : Request) (refusal : Refusal)
+    (known : Result HintFacts Refusal)
     → IsFault (Err refusal) → IfOk known (KnowsFor s request refusal)
     → or_nothing known ≡ Nothing
 nothing_of s request refusal.Memory (Ok known) fault knows = knows
@@ -78,7 +80,7 @@ module _ (a b c : Held) (request : Request) (refusal : Refusal)
   }
 
   -- what it told is so of the state after the request
-  pub knows_after : (known : Result Known Refusal) → (HasCleanDisk c.db
+  pub knows_after : (known : Result HintFacts Refusal) → (HasCleanDisk c.db
       → (s : State) → KeepsIfOpen b s → IfOk known (KnowsFor s request refusal))
       → IfErr known (λ fault. IsFault (Err fault))
       → KnowsAfter a c request (Err refusal) known

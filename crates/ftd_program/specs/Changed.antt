@@ -14,10 +14,7 @@ account_change account d = record { account = account; removed = d.removed; adde
 -- so where the answer to its post tells of a change
 abbrev pub change_by : List ℕ → Answer → Option AccountChange
 change_by account (Ok (reply.Posted difference)) = Some (account_change account difference)
-change_by account (Ok reply.Done) = None
-change_by account (Ok reply.Already) = None
-change_by account (Ok (reply.Told facts)) = None
-change_by account (Err refused) = None
+change_by account other = None
 
 -- how the post of a record that was answered so changed the obligations of its account
 abbrev pub change_of : Request → Answer → Option AccountChange

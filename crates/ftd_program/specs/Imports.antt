@@ -3,6 +3,7 @@ use Rattle.std.specs.Prelude.{◌≡◌, ◌⊎◌, ◌<◌, ◌≤◌, ◌+◌,
 use Rattle.std.specs.Prelude.{List, Some, Err, length, map}
 use Rattle.std.specs.List.{filter_map}
 use Rattle.sqlite.specs.Tree.{Trees}
+use Rattle.ftd_program.specs.declared.lists.TheConstants.{TOGETHER}
 use Rattle.ftd_csv.specs.Answers.{most_bytes}
 use Rattle.ftd_csv.specs.Records.{HasHeader, numbered_from, records_of}
 use Rattle.ftd_csv.specs.declared.entries.Content.{Content}
@@ -19,7 +20,7 @@ use Rattle.ftd_program.specs.Outcomes.{Counts, IsNothing, IsSummary, Outcome, an
 use Rattle.ftd_program.specs.Outcomes.{posts_of, record_in, request_in}
 use Rattle.ftd_program.specs.declared.summary.StopCause.{StopCause}
 use Rattle.ftd_program.specs.declared.summary.StopCause.TheVariants as cause
-use Rattle.ftd_program.specs.declared.summary.Stopped.{Stopped}
+use Rattle.ftd_program.specs.declared.summary.ImportStop.{ImportStop}
 use Rattle.ftd_program.specs.declared.summary.Summary.{Summary}
 
 -- the desk was asked for the posts of these records, one after the other, and answered so; only
@@ -72,7 +73,7 @@ pub record StopsIn (failed : Type 0) (old new : Held) (records : List (ℕ × Co
 
 -- so many records at most go to the desk together
 abbrev pub most_together : ℕ
-most_together = 16_384
+most_together = TOGETHER
 
 -- nothing of these posts was done; but where their commit failed, a crash may find what all of them
 -- do
@@ -166,7 +167,7 @@ StopsFor failed old new kind text done cause.Store =
 
 -- the import stopped so: the posts went one after the other, or, only where the first premise
 -- holds, in lists of which a commit failed
-abbrev pub Stops : Type 0 → Held → Held → Sheet → List ℕ → Stopped → Type 0
+abbrev pub Stops : Type 0 → Held → Held → Sheet → List ℕ → ImportStop → Type 0
 Stops failed old new kind text stopped =
     StopsFor failed old new kind text stopped.done stopped.cause
 

@@ -52,17 +52,12 @@ answer_in (skipped number field) = None
 -- it was posted, was there already, was refused, was malformed
 abbrev pub is_posted : Answer → Bool
 is_posted (Ok reply.Done) = true
-is_posted (Ok reply.Already) = false
 is_posted (Ok (reply.Posted difference)) = true
-is_posted (Ok (reply.Told facts)) = false
-is_posted (Err refused) = false
+is_posted other = false
 
 abbrev pub is_already : Answer → Bool
-is_already (Ok reply.Done) = false
 is_already (Ok reply.Already) = true
-is_already (Ok (reply.Posted difference)) = false
-is_already (Ok (reply.Told facts)) = false
-is_already (Err refused) = false
+is_already other = false
 
 abbrev pub is_refused : Answer → Bool
 is_refused (Ok told) = false
@@ -105,36 +100,9 @@ refusal_in (skipped number field) = None
 
 -- the cause by which an answer stops an import: there was no memory, or the store failed
 abbrev pub fault_of : Answer → Option StopCause
-fault_of (Ok told) = None
 fault_of (Err refusal.Memory) = Some cause.Memory
 fault_of (Err refusal.Store) = Some cause.Store
-fault_of (Err refusal.BadName) = None
-fault_of (Err refusal.BadYear) = None
-fault_of (Err refusal.BadDay) = None
-fault_of (Err refusal.BadCents) = None
-fault_of (Err refusal.BadCalendar) = None
-fault_of (Err refusal.BadNumber) = None
-fault_of (Err refusal.UnknownAccount) = None
-fault_of (Err refusal.AccountDiffers) = None
-fault_of (Err refusal.CalendarDiffers) = None
-fault_of (Err refusal.QuarterDiffers) = None
-fault_of (Err refusal.RunDiffers) = None
-fault_of (Err refusal.PaymentDiffers) = None
-fault_of (Err refusal.UnknownRun) = None
-fault_of (Err refusal.UnknownPayment) = None
-fault_of (Err refusal.BeforeStart) = None
-fault_of (Err (refusal.CalendarMissing year)) = None
-fault_of (Err (refusal.QuarterMissing quarter)) = None
-fault_of (Err (refusal.YearNotOpen year)) = None
-fault_of (Err refusal.TooManyRuns) = None
-fault_of (Err refusal.TooManyPayments) = None
-fault_of (Err refusal.WrongForm) = None
-fault_of (Err refusal.YearDiffers) = None
-fault_of (Err (refusal.YearMissing year)) = None
-fault_of (Err refusal.CorrectionDiffers) = None
-fault_of (Err (refusal.NumberSkipped count)) = None
-fault_of (Err refusal.NoHoliday) = None
-fault_of (Err refusal.AccountInUse) = None
+fault_of other = None
 
 abbrev pub fault_in : Outcome → Option StopCause
 fault_in (posted number it answer) = fault_of answer

@@ -33,7 +33,7 @@ use Rattle.ftd_program.specs.Added.{added_by}
 use Rattle.ftd_program.specs.Imports.{Imports, Stops}
 use Rattle.ftd_program.specs.Trials.{FailsTrial, WouldImport}
 use Rattle.ftd_program.specs.declared.summary.StopCause.{StopCause}
-use Rattle.ftd_program.specs.declared.summary.Stopped.{Stopped}
+use Rattle.ftd_program.specs.declared.summary.ImportStop.{ImportStop}
 use Rattle.ftd_program.specs.declared.summary.Summary.{Summary}
 use Rattle.ftd_verbs.specs.Asked.{greatest_number}
 use Rattle.ftd_cli.specs.declared.tasks.Job.{Job}
@@ -50,20 +50,20 @@ use Rattle.ftd_answers.specs.declared.formats.Format.{Format}
 use Rattle.ftd_answers.specs.declared.formats.Format.TheVariants as formats
 use Rattle.ftd_answers.specs.declared.formats.ListFormat.{ListFormat}
 use Rattle.ftd_answers.specs.declared.formats.ListFormat.TheVariants.{Text, Csv, Json}
-use Rattle.ftd_replies.specs.declared.hints.Known.{Known}
-use Rattle.ftd_replies.specs.declared.hints.Known.TheVariants.{Nothing}
+use Rattle.ftd_replies.specs.declared.hints.HintFacts.{HintFacts}
+use Rattle.ftd_replies.specs.declared.hints.HintFacts.TheVariants.{Nothing}
 use Rattle.ftd_program.specs.AddedNotes.{added_notes}
 use Rattle.ftd_program.specs.Mending.{KnowsAfter, KnowsOf, or_nothing}
 use Rattle.ftd_program.specs.Numbering.{next_of, number_text}
 use Rattle.ftd_program.specs.RecordNotes.{PutsRefusals}
 use Rattle.ftd_program.specs.Summaries.{stop_status, stop_text, summary_status, summary_text}
-use Rattle.ftd_program.specs.declared.performing.Performed.{Performed}
+use Rattle.ftd_program.specs.declared.performing.JobEnd.{JobEnd}
 
 module _ {O E : Type 0} (o_taken : O → Option (List ℕ)) (o_failed : O → Bool)
     (e_taken : E → Option (List ℕ)) (e_failed : E → Bool)
-    (out : O) (err : E) (p : Performed O E) where
+    (out : O) (err : E) (p : JobEnd O E) where
   -- the line of a refusal on standard error, and its hints below it, with what is known for them
-  pub record PrintsRefusal (db : List ℕ) (request : Request) (known : Known) (refusal : Refusal)
+  pub record PrintsRefusal (db : List ℕ) (request : Request) (known : HintFacts) (refusal : Refusal)
       : Type 0 where
     pub status_is : p.status ≡ refusal_status refusal
     pub out_is : p.out ≡ out
@@ -125,13 +125,13 @@ module _ {O E : Type 0} (o_taken : O → Option (List ℕ)) (o_failed : O → Bo
     pub whole : Appends (o_taken out) (o_taken p.out) text
     pub line : IsPut (e_taken err) (e_taken p.err) (e_failed p.err) (stop_text kind input why)
 
-  abbrev pub PrintsStop : Sheet → List ℕ → Stopped → Type 0
+  abbrev pub PrintsStop : Sheet → List ℕ → ImportStop → Type 0
   PrintsStop kind input stopped =
       PrintsBoth kind input stopped.cause (summary_text stopped.done)
       ⊎ FailsOutput (summary_text stopped.done)
 
   -- the text of the reply in a format, and what is said below it, or the lines of the refusal
-  abbrev pub Prints : List ℕ → Format → Request → Known → Answer → Type 0
+  abbrev pub Prints : List ℕ → Format → Request → HintFacts → Answer → Type 0
   Prints db format request known (Ok reply) =
       PrintsReply (reply_text format reply) (below_text db request reply)
   Prints db format request known (Err refusal) = PrintsRefusal db request known refusal
@@ -140,7 +140,7 @@ module _ {O E : Type 0} (o_taken : O → Option (List ℕ)) (o_failed : O → Bo
   pub record PerformsBy (old new : Held) (db : List ℕ) (format : Format) (request : Request)
       (answer : Answer) : Type 0 where
     pub handles : Handles old new request answer
-    pub known : Result Known Refusal
+    pub known : Result HintFacts Refusal
     pub knows : KnowsAfter old new request answer known
     pub prints : Prints db format request (or_nothing known) answer
 
@@ -170,7 +170,7 @@ module _ {O E : Type 0} (o_taken : O → Option (List ℕ)) (o_failed : O → Bo
   pub data PrintsDue (s : State) (db account : List ℕ) (quarter as_of : ℕ) : Type 0 where
     whole : (rows : List DueRow) → Replies s account quarter as_of rows
         → PrintsText 0 (due_text account quarter as_of rows) → PrintsDue s db account quarter as_of
-    refused : (refusal : Refusal) (known : Result Known Refusal)
+    refused : (refusal : Refusal) (known : Result HintFacts Refusal)
         → Refuses s account quarter as_of refusal
         → KnowsOf s (Question (DueList account quarter as_of)) (Err refusal) known
         → PrintsRefusal db (Question (DueList account quarter as_of)) (or_nothing known) refusal
@@ -211,13 +211,10 @@ abbrev pub PutsNote : {E : Type 0} → (E → Option (List ℕ)) → (E → Bool
     → Answer → Type 0
 PutsNote e_taken e_failed err err' db (Ok (reply.Told facts)) =
     IsPut (e_taken err) (e_taken err') (e_failed err') (note_text db facts)
-PutsNote e_taken e_failed err err' db (Ok reply.Done) = err' ≡ err
-PutsNote e_taken e_failed err err' db (Ok reply.Already) = err' ≡ err
-PutsNote e_taken e_failed err err' db (Ok (reply.Posted difference)) = err' ≡ err
-PutsNote e_taken e_failed err err' db (Err refusal) = err' ≡ err
+PutsNote e_taken e_failed err err' db other = err' ≡ err
 
 module _ {S O E : Type 0} (g : store.Ghosts S) (e_taken : E → Option (List ℕ)) (e_failed : E → Bool)
-    (first p : Performed O E) where
+    (first p : JobEnd O E) where
   -- the question was asked of the desk, and what is said of its answer put below what was performed
   pub record Notes (old new : Desk S) (db : List ℕ) (question : Request) : Type 0 where
     pub answer : Answer
@@ -234,14 +231,14 @@ module _ {S O E : Type 0} (g : store.Ghosts S) (e_taken : E → Option (List ℕ
 
 module _ {S O E : Type 0} (g : store.Ghosts S) (o_taken : O → Option (List ℕ)) (o_failed : O → Bool)
     (e_taken : E → Option (List ℕ)) (e_failed : E → Bool)
-    (out : O) (err : E) (p : Performed O E) where
+    (out : O) (err : E) (p : JobEnd O E) where
   -- the request was asked of the desk, and its answer printed; then the desk was asked what is said
   -- below it
   pub record AnswersThenNotes (old new : Desk S) (db : List ℕ) (format : Format) (request : Request)
       : Type 0 where
     pub answer : Answer
     pub between : Desk S
-    pub first : Performed O E
+    pub first : JobEnd O E
     pub performs : PerformsBy o_taken o_failed e_taken e_failed out err first (held g old)
         (held g between) db format request answer
     pub notes : NotesAfter g e_taken e_failed first p between new db (asked_then request answer)
@@ -288,7 +285,7 @@ as_text = formats.List Text
 
 module _ {S O E : Type 0} (g : store.Ghosts S) (o_taken : O → Option (List ℕ)) (o_failed : O → Bool)
     (e_taken : E → Option (List ℕ)) (e_failed : E → Bool)
-    (out : O) (err : E) (p : Performed O E) where
+    (out : O) (err : E) (p : JobEnd O E) where
   -- where the desk answered the request so, this was performed
   abbrev pub PrintsAnswer : Desk S → Desk S → List ℕ → Format → Request → Answer → Type 0
   PrintsAnswer old new db format request answer =
@@ -321,7 +318,7 @@ module _ {S O E : Type 0} (g : store.Ghosts S) (o_taken : O → Option (List ℕ
 
   -- the summary of an import, or why it stopped, was printed; of a summary the desk was asked what
   -- is known of its refused records
-  abbrev pub PrintsImport : Desk S → Desk S → Sheet → List ℕ → Result Summary Stopped → Type 0
+  abbrev pub PrintsImport : Desk S → Desk S → Sheet → List ℕ → Result Summary ImportStop → Type 0
   PrintsImport old new kind text (Ok summary) =
       PrintsSummary o_taken o_failed e_taken e_failed out err p (held g old) (held g new) kind text
       summary
@@ -331,7 +328,7 @@ module _ {S O E : Type 0} (g : store.Ghosts S) (o_taken : O → Option (List ℕ
   -- the entries of the text were imported, and what became of them printed; only where the desk is
   -- stopped may a commit have failed
   pub record PerformsImport (old new : Desk S) (kind : Sheet) (text : List ℕ) : Type 0 where
-    pub import : Result Summary Stopped
+    pub import : Result Summary ImportStop
     pub between : Desk S
     pub imports : MatchResult import
         (λ summary. Imports (held g old) (held g between) kind text summary)
@@ -341,7 +338,7 @@ module _ {S O E : Type 0} (g : store.Ghosts S) (o_taken : O → Option (List ℕ
   -- what an import of the text would say was printed, as the import prints it; the desk stands for
   -- the state as it was
   pub record PerformsTrial (old new : Desk S) (kind : Sheet) (text : List ℕ) : Type 0 where
-    pub trial : Result Summary Stopped
+    pub trial : Result Summary ImportStop
     pub between : Desk S
     pub tells : MatchResult trial
         (λ summary. WouldImport (held g old) (held g between) kind text summary)

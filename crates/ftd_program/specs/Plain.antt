@@ -5,6 +5,7 @@ use Rattle.std.specs.Prelude.{Contains, count_by, if◌then◌else◌, ⊤}
 use Rattle.std.specs.List.{filter_map, flat_map}
 use Rattle.std.specs.List.Sorted.{IsStrictlyIncreasing}
 use Rattle.std.specs.Str.{bytes_eq}
+use Rattle.ftd_days.specs.declared.limits.TheConstants.{MOST_HOLIDAYS}
 use Rattle.ftd_days.specs.Calendar.{year_of}
 use Rattle.ftd_rules.specs.declared.DaySum.{DaySum}
 use Rattle.ftd_rules.specs.declared.run.PayRun.{PayRun}
@@ -20,21 +21,22 @@ use Rattle.ftd_csv.specs.declared.sheets.Sheet.TheVariants.{Runs}
 use Rattle.ftd_csv.specs.Records.{HasHeader, records_of}
 use Rattle.ftd_csv.specs.declared.entries.Content.{Content}
 use Rattle.ftd_csv.specs.declared.entries.Content.TheVariants as content
+use Rattle.ftd_machine.specs.declared.limits.TheConstants.{MOST_ENTRIES}
 use Rattle.ftd_machine.specs.declared.requests.Request.TheVariants as request
 use Rattle.ftd_program.specs.declared.fault.PlainFault.{PlainFault}
 use Rattle.ftd_program.specs.declared.fault.PlainFault.TheVariants as fault
 
 -- the most runs of an account
 abbrev pub most_runs : ℕ
-most_runs = 20_000
+most_runs = MOST_ENTRIES
 
 -- the holidays are a calendar of the year and the next: days of these years that rise, at most 60
 -- of each
 pub record IsCalendar (year : ℕ) (holidays : List ℕ) : Type 0 where
   pub rising : IsStrictlyIncreasing holidays
   pub in_years : All (λ day. (year_of day ≡ year) ⊎ (year_of day ≡ year + 1)) holidays
-  pub few : count_by (λ day. year_of day == year) holidays ≤ 60
-  pub few_next : count_by (λ day. year_of day == year + 1) holidays ≤ 60
+  pub few : count_by (λ day. year_of day == year) holidays ≤ MOST_HOLIDAYS
+  pub few_next : count_by (λ day. year_of day == year + 1) holidays ≤ MOST_HOLIDAYS
 
 -- a pay run of an employer: the name of its account, its number, its payday and its amounts
 pub record Run : Type 0 where
@@ -84,11 +86,7 @@ RunFault before run (fault.RunDiffers number) =
 RunFault before run fault.TooManyRuns =
     ((other : Run) → Contains before other → other.number ≢ run.number)
     × ((counted : List Run) × AreCounted before counted × (length counted ≡ most_runs))
-RunFault before run fault.BadHeader = ⊥
-RunFault before run fault.TooLong = ⊥
-RunFault before run (fault.Malformed number field) = ⊥
-RunFault before run fault.BadCalendar = ⊥
-RunFault before run fault.Memory = ⊥
+RunFault before run other = ⊥
 
 -- a record is at fault, given the records before it. Records are numbered from 1, and the header is
 -- record 1.

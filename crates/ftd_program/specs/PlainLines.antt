@@ -13,7 +13,7 @@ use Rattle.ftd_ports.specs.Writing.{WritesPrefix}
 use Rattle.ftd_csv.specs.Headers.{header_hint}
 use Rattle.ftd_csv.specs.Hints.{record_hints}
 use Rattle.ftd_program.specs.Performing.{PrintsOut}
-use Rattle.ftd_program.specs.declared.performing.Performed.{Performed}
+use Rattle.ftd_program.specs.declared.performing.JobEnd.{JobEnd}
 
 -- `refused header`, `record 4 malformed field 3`, `run 2 differs`
 unfoldable pub record_line : ℕ → ℕ → List ℕ
@@ -45,7 +45,7 @@ IsHinted before after failed line hints =
 
 -- why there are none, on standard error
 pub record PrintsFault {O E : Type 0} (e_taken : E → Option (List ℕ)) (e_failed : E → Bool)
-    (out : O) (err : E) (p : Performed O E) (input : List ℕ) (why : PlainFault) : Type 0 where
+    (out : O) (err : E) (p : JobEnd O E) (input : List ℕ) (why : PlainFault) : Type 0 where
   pub status_is : p.status ≡ fault_status why
   pub out_is : p.out ≡ out
   pub lines : IsHinted (e_taken err) (e_taken p.err) (e_failed p.err) (fault_line why)
@@ -53,7 +53,7 @@ pub record PrintsFault {O E : Type 0} (e_taken : E → Option (List ℕ)) (e_fai
 
 module _ {O E : Type 0} (o_taken : O → Option (List ℕ)) (o_failed : O → Bool)
     (e_taken : E → Option (List ℕ)) (e_failed : E → Bool)
-    (out : O) (err : E) (p : Performed O E) where
+    (out : O) (err : E) (p : JobEnd O E) where
   -- the deposits were printed, or why there are none
   pub record PerformsPlain (input : List ℕ) (task : PlainTask) : Type 0 where
     pub deposits : Result (List ℕ) PlainFault

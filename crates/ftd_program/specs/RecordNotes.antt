@@ -1,7 +1,8 @@
 -- What is said below the summary of an import of the records that were refused: of each kind of
 -- refusal the first 20 records, and how many more there are.
 use Rattle.std.specs.Prelude.{◌≡◌, ◌==◌, ◌++◌, ℕ, List, [], ◌∷◌, Option, None, Some, Result, Ok}
-use Rattle.std.specs.Prelude.{Err, IfErr, IfOk, codes, drop, filter, if◌then◌else◌, length, map, nat_lt}
+use Rattle.std.specs.Prelude.{Err, IfErr, IfOk, codes, drop}
+use Rattle.std.specs.Prelude.{filter, if◌then◌else◌, length, map, nat_lt}
 use Rattle.std.specs.Borrow.{Bor}
 use Rattle.std.specs.Fmt.{decimal}
 use Rattle.std.specs.List.{concat, flat_map, range_with_len}

@@ -39,10 +39,7 @@ RefusesRun old number run (fault.RunDiffers other) =
 RefusesRun old number run fault.TooManyRuns =
     (lookup (is_at (nat_cmp number)) old ≡ None) × (length old ≡ most_runs)
 RefusesRun old number run fault.Memory = ⊤
-RefusesRun old number run fault.BadHeader = ⊥
-RefusesRun old number run fault.TooLong = ⊥
-RefusesRun old number run (fault.Malformed record_number field) = ⊥
-RefusesRun old number run fault.BadCalendar = ⊥
+RefusesRun old number run other = ⊥
 
 abbrev pub TakesRecord : List ℕ → ℕ → List (ℕ × PayRun) → SaidRun → List (ℕ × PayRun) → Type 0
 TakesRecord account year old (malformed place) new = ⊥

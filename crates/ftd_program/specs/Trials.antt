@@ -13,7 +13,7 @@ use Rattle.ftd_program.specs.Outcomes.{Counts, IsNothing, IsSummary, Outcome, an
 use Rattle.ftd_program.specs.Imports.{AreOutcomes, numbered_in}
 use Rattle.ftd_program.specs.declared.summary.StopCause.{StopCause}
 use Rattle.ftd_program.specs.declared.summary.StopCause.TheVariants as cause
-use Rattle.ftd_program.specs.declared.summary.Stopped.{Stopped}
+use Rattle.ftd_program.specs.declared.summary.ImportStop.{ImportStop}
 use Rattle.ftd_program.specs.declared.summary.Summary.{Summary}
 
 -- in each state that the desk stood for, the machine would answer the posts so, one after the other
@@ -50,6 +50,6 @@ FailsFor kind text cause.Memory = ⊤
 FailsFor kind text cause.Store = ⊤
 
 -- nothing is said of the records, for this cause
-pub record FailsTrial (kind : Sheet) (text : List ℕ) (stopped : Stopped) : Type 0 where
+pub record FailsTrial (kind : Sheet) (text : List ℕ) (stopped : ImportStop) : Type 0 where
   pub nothing : IsNothing stopped.done
   pub reason : FailsFor kind text stopped.cause

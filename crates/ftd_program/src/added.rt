@@ -154,8 +154,9 @@ fn account_added(
     })
 }
 
-/// The obligations that changes added to each account: those that are there after them, and were not
-/// there before. The accounts are in the order of their last changes. An error if there is no memory; the changes stay as they are.
+/// The obligations that changes added to each account: those that are there after them, and were
+/// not there before. The accounts are in the order of their last changes. An error if there is no
+/// memory; the changes stay as they are.
 pub fn added_by(changes: &Collection<AccountChange>) -> Result<Vec<AccountAdded>, AllocError>
     ensures { IfOk result (λ list. list.items ≡ added_by changes.now.entries.items) }
 {

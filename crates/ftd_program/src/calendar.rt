@@ -8,7 +8,7 @@ ghost use Rattle.ftd_program.specs.Plain.{IsCalendar};
 ghost use Rattle.ftd_program.specs.Taking.{CalendarFails};
 
 use crate::fault::PlainFault;
-use ftd_days::{Day, Holidays};
+use ftd_days::{Day, FIRST_YEAR, Holidays, LAST_OPEN_YEAR};
 use std::alloc::Global;
 
 /// How many of the days, from the first on, are of the year.
@@ -21,8 +21,8 @@ fn days_of(year: u32, days: &[Day]) -> usize
 /// The holidays as a calendar of the year and the next. `BadCalendar` where they don't rise, don't
 /// all lie in these years, or are more than 60 for one.
 pub fn calendar(alloc: Global, year: u32, holidays: &[Day]) -> Result<Holidays, PlainFault>
-    requires from { 2001 ≤ year }
-    requires to { year ≤ 2098 }
+    requires from { FIRST_YEAR ≤ year }
+    requires to { year ≤ LAST_OPEN_YEAR }
     ensures { MatchResult result
         (λ given. IsCalendar year holidays.now × (holidays_of given ≡ holidays.now))
         (λ fault. CalendarFails year holidays.now fault) }

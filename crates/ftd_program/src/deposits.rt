@@ -12,7 +12,7 @@ use crate::calendar::calendar;
 use crate::fault::PlainFault;
 use crate::runs::take_records;
 use ftd_csv::{MOST_BYTES, Records, Sheet};
-use ftd_days::{Cents, Day, Holidays};
+use ftd_days::{Cents, Day, FIRST_YEAR, Holidays, LAST_OPEN_YEAR};
 use ftd_rules::{DaySum, Form, Kind, Obligation, PayRun, YearLine, assess};
 use std::alloc::{AllocError, Global};
 use std::collections::BTreeMap;
@@ -32,8 +32,8 @@ pub fn plain(
     year: u32,
     holidays: &[Day],
 ) -> Result<Vec<u8>, PlainFault>
-    requires from { 2001 ≤ year }
-    requires to { year ≤ 2098 }
+    requires from { FIRST_YEAR ≤ year }
+    requires to { year ≤ LAST_OPEN_YEAR }
     ensures { MatchResult result
         (λ text. PlainGives csv.now account.now year holidays.now text.items)
         (λ fault. PlainFails csv.now account.now year holidays.now fault) }
@@ -80,8 +80,8 @@ fn deposits(
     sums: &[DaySum],
     holidays: &Holidays,
 ) -> Result<Vec<u8>, AllocError>
-    requires from { 2001 ≤ year }
-    requires to { year ≤ 2098 }
+    requires from { FIRST_YEAR ≤ year }
+    requires to { year ≤ LAST_OPEN_YEAR }
     requires few { length sums.now ≤ most_runs }
     requires in_year { All (λ sum. year_of sum.day ≡ year) sums.now }
     requires small { All (λ sum. sum.cents.0 ≤ 299_999_999_997) sums.now }

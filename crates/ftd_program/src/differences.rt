@@ -1,5 +1,5 @@
-//! In what an entry that was asked for differs from the one that the desk keeps. `Memory` and `Store`
-//! may come in place of that. The desk stands for the state as it was.
+//! In what an entry that was asked for differs from the one that the desk keeps. `Memory` and
+//! `Store` may come in place of that. The desk stands for the state as it was.
 
 ghost use Rattle.std.specs.Prelude.{◌≡◌, Err, IfErr, IfOk};
 ghost use Rattle.sqlite.specs.State.{HasCleanDisk};

@@ -6,8 +6,8 @@ ghost use Rattle.ftd_program.specs.Imports.{Imports, Stops, is_of_text};
 
 use crate::lists::post_lists;
 use crate::progress::Progress;
-use crate::reading::counted;
-use crate::summary::{Stopped, Summary, cause_of};
+use crate::reading::count_records;
+use crate::summary::{ImportStop, Summary, cause_of};
 use ftd_csv::Sheet;
 use ftd_desk::Desk;
 use sqlite::Alter;
@@ -32,7 +32,7 @@ pub fn import<S: Alter, P: Progress>(
     sheet: Sheet,
     text: &[u8],
     progress: &mut P,
-) -> Result<Summary, Stopped>
+) -> Result<Summary, ImportStop>
     ensures imports { MatchResult result
         (λ summary. Imports (held S.Store desk.old) (held S.Store desk.new) sheet text.now
         summary)
@@ -42,17 +42,17 @@ pub fn import<S: Alter, P: Progress>(
         (λ stopped. is_of_text stopped.cause ≡ true → desk.new ≡ desk.old) }
 {
     let mut done = Summary::none(alloc);
-    let (mut records, all) = match counted(alloc, sheet, text) {
+    let (mut records, all) = match count_records(alloc, sheet, text) {
         Ok(counted) => counted,
         Err(fault) => {
             let cause = cause_of(fault);
-            return Err(Stopped { done, cause });
+            return Err(ImportStop { done, cause });
         }
     };
     let posted = post_lists(alloc, desk, &mut records, all, &mut done, progress);
     progress.end();
     match posted {
         Ok(()) => Ok(done),
-        Err(cause) => Err(Stopped { done, cause }),
+        Err(cause) => Err(ImportStop { done, cause }),
     }
 }

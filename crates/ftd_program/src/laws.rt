@@ -12,7 +12,7 @@ ghost use Rattle.ftd_machine.specs.State.{State};
 ghost use Rattle.ftd_machine.specs.Step.{Step};
 ghost use Rattle.ftd_machine.specs.declared.kept.KeptRows.TheVariants as rows;
 ghost use Rattle.ftd_machine.specs.declared.kept.KeptRun.{KeptRun};
-ghost use Rattle.ftd_machine.specs.declared.requests.Kept.TheVariants as kept;
+ghost use Rattle.ftd_machine.specs.declared.requests.KeptList.TheVariants as kept;
 ghost use Rattle.ftd_machine.specs.declared.requests.Question.TheVariants as question;
 ghost use Rattle.ftd_machine.specs.declared.requests.Request.TheVariants.{Question};
 ghost use Rattle.ftd_program.specs.Exports.{IsPosted, is_live, said_as};

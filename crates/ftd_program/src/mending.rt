@@ -14,10 +14,10 @@ ghost use Rattle.ftd_program.specs.Mending.{KnowsPayment, KnowsQuarters, KnowsRu
 ghost use Rattle.ftd_program.specs.Mending.{begins_after, differs_as, enrolled_as, or_nothing};
 
 use crate::differences::{payment_difference, run_difference};
-use ftd_days::Quarter;
+use ftd_days::{FIRST_YEAR, LAST_OPEN_YEAR, Quarter};
 use ftd_desk::Desk;
 use ftd_machine::{Account, Entry, Refusal, Request};
-use ftd_replies::{Differing, Enrolment, Known, account_in};
+use ftd_replies::{Differing, Enrolment, HintFacts, account_in};
 use sqlite::Alter;
 
 /// What the desk keeps that the refusal of a request can be mended by. `Memory` and `Store` may
@@ -26,7 +26,7 @@ pub fn known_for<S: Alter>(
     desk: &mut Desk<S>,
     request: &Request,
     refusal: Refusal,
-) -> Result<Known, Refusal>
+) -> Result<HintFacts, Refusal>
     ensures knows { HasCleanDisk (held S.Store desk.new).db
         → (s : State) → KeepsIfOpen (held S.Store desk.old) s
         → IfOk result (KnowsFor s request.now refusal) }
@@ -41,28 +41,7 @@ pub fn known_for<S: Alter>(
         Refusal::AccountDiffers => account_for(desk, request),
         Refusal::RunDiffers => run_for(desk, request),
         Refusal::PaymentDiffers => payment_for(desk, request),
-        Refusal::BadName
-        | Refusal::BadYear
-        | Refusal::BadDay
-        | Refusal::BadCents
-        | Refusal::BadCalendar
-        | Refusal::BadNumber
-        | Refusal::QuarterDiffers
-        | Refusal::UnknownRun
-        | Refusal::UnknownPayment
-        | Refusal::BeforeStart
-        | Refusal::CalendarMissing(_)
-        | Refusal::TooManyRuns
-        | Refusal::TooManyPayments
-        | Refusal::Memory
-        | Refusal::Store
-        | Refusal::WrongForm
-        | Refusal::YearDiffers
-        | Refusal::YearMissing(_)
-        | Refusal::CorrectionDiffers
-        | Refusal::NumberSkipped(_)
-        | Refusal::NoHoliday
-        | Refusal::AccountInUse => Ok(Known::Nothing),
+        _ => Ok(HintFacts::Nothing),
     }
 }
 
@@ -72,7 +51,7 @@ fn quarters_for<S: Alter>(
     desk: &mut Desk<S>,
     request: &Request,
     first: Quarter,
-) -> Result<Known, Refusal>
+) -> Result<HintFacts, Refusal>
     ensures knows { HasCleanDisk (held S.Store desk.new).db
         → (s : State) → KeepsIfOpen (held S.Store desk.old) s
         → IfOk result (KnowsQuarters s request.now first) }
@@ -80,16 +59,17 @@ fn quarters_for<S: Alter>(
     ensures stands { StandsAsBefore (held S.Store desk.old) (held S.Store desk.new) }
 {
     match request {
-        Request::Enter(Entry::Year { account, year }) if 2001 <= *year && *year <= 2098 => {
+        Request::Enter(Entry::Year { account, year })
+            if FIRST_YEAR <= *year && *year <= LAST_OPEN_YEAR => {
             let quarters = desk.missing_quarters(account.as_str(), first, *year)?;
-            Ok(Known::Missing(quarters))
+            Ok(HintFacts::Missing(quarters))
         }
-        _ => Ok(Known::Nothing),
+        _ => Ok(HintFacts::Nothing),
     }
 }
 
 /// Of a calendar that differs, the days that it was given with.
-fn days_for<S: Alter>(desk: &mut Desk<S>, request: &Request) -> Result<Known, Refusal>
+fn days_for<S: Alter>(desk: &mut Desk<S>, request: &Request) -> Result<HintFacts, Refusal>
     ensures knows { HasCleanDisk (held S.Store desk.new).db
         → (s : State) → KeepsIfOpen (held S.Store desk.old) s
         → IfOk result (KnowsDays s request.now) }
@@ -97,26 +77,26 @@ fn days_for<S: Alter>(desk: &mut Desk<S>, request: &Request) -> Result<Known, Re
     ensures stands { StandsAsBefore (held S.Store desk.old) (held S.Store desk.new) }
 {
     let Request::Enter(Entry::Calendar { year, .. }) = request else {
-        return Ok(Known::Nothing);
+        return Ok(HintFacts::Nothing);
     };
     match desk.given_days(*year)? {
-        Some(days) => Ok(Known::Given(days)),
-        None => Ok(Known::Nothing),
+        Some(days) => Ok(HintFacts::Given(days)),
+        None => Ok(HintFacts::Nothing),
     }
 }
 
 /// What differs, if something does.
-fn differs_as(found: Option<Differing>) -> Known
+fn differs_as(found: Option<Differing>) -> HintFacts
     ensures { result ≡ differs_as found }
 {
     match found {
-        Some(differing) => Known::Differs(differing),
-        None => Known::Nothing,
+        Some(differing) => HintFacts::Differs(differing),
+        None => HintFacts::Nothing,
     }
 }
 
 /// Of a run that differs, the one that has its number.
-fn run_for<S: Alter>(desk: &mut Desk<S>, request: &Request) -> Result<Known, Refusal>
+fn run_for<S: Alter>(desk: &mut Desk<S>, request: &Request) -> Result<HintFacts, Refusal>
     ensures knows { HasCleanDisk (held S.Store desk.new).db
         → (s : State) → KeepsIfOpen (held S.Store desk.old) s
         → IfOk result (KnowsRun s request.now) }
@@ -129,14 +109,14 @@ fn run_for<S: Alter>(desk: &mut Desk<S>, request: &Request) -> Result<Known, Ref
         run,
     } = request
     else {
-        return Ok(Known::Nothing);
+        return Ok(HintFacts::Nothing);
     };
     let found = run_difference(desk, account.as_str(), *number, *run)?;
     Ok(differs_as(found))
 }
 
 /// Of a payment that differs, the one that has its number.
-fn payment_for<S: Alter>(desk: &mut Desk<S>, request: &Request) -> Result<Known, Refusal>
+fn payment_for<S: Alter>(desk: &mut Desk<S>, request: &Request) -> Result<HintFacts, Refusal>
     ensures knows { HasCleanDisk (held S.Store desk.new).db
         → (s : State) → KeepsIfOpen (held S.Store desk.old) s
         → IfOk result (KnowsPayment s request.now) }
@@ -149,14 +129,18 @@ fn payment_for<S: Alter>(desk: &mut Desk<S>, request: &Request) -> Result<Known,
         payment,
     } = request
     else {
-        return Ok(Known::Nothing);
+        return Ok(HintFacts::Nothing);
     };
     let found = payment_difference(desk, account.as_str(), *number, *payment)?;
     Ok(differs_as(found))
 }
 
 /// Of an account that differs, as what it is enrolled, and whether something rests on it.
-fn enrolment_of<S: Alter>(desk: &mut Desk<S>, name: &str, asked: Account) -> Result<Known, Refusal>
+fn enrolment_of<S: Alter>(
+    desk: &mut Desk<S>,
+    name: &str,
+    asked: Account,
+) -> Result<HintFacts, Refusal>
     ensures knows { HasCleanDisk (held S.Store desk.new).db
         → (s : State) → KeepsIfOpen (held S.Store desk.old) s
         → IfOk result (λ known.
@@ -165,10 +149,10 @@ fn enrolment_of<S: Alter>(desk: &mut Desk<S>, name: &str, asked: Account) -> Res
     ensures stands { StandsAsBefore (held S.Store desk.old) (held S.Store desk.new) }
 {
     let Some(kept) = desk.enrolled_account(name)? else {
-        return Ok(Known::Nothing);
+        return Ok(HintFacts::Nothing);
     };
     let is_unused = desk.is_unused(name)?;
-    Ok(Known::Enrolled(Enrolment {
+    Ok(HintFacts::Enrolled(Enrolment {
         asked,
         kept,
         is_unused,
@@ -176,7 +160,7 @@ fn enrolment_of<S: Alter>(desk: &mut Desk<S>, name: &str, asked: Account) -> Res
 }
 
 /// Of an entry of an account that differs, what is known of the one that has its name.
-fn enrolled_for<S: Alter>(desk: &mut Desk<S>, entry: &Entry) -> Result<Known, Refusal>
+fn enrolled_for<S: Alter>(desk: &mut Desk<S>, entry: &Entry) -> Result<HintFacts, Refusal>
     ensures knows { HasCleanDisk (held S.Store desk.new).db
         → (s : State) → KeepsIfOpen (held S.Store desk.old) s
         → IfOk result (KnowsEnrolled s entry.now) }
@@ -186,12 +170,12 @@ fn enrolled_for<S: Alter>(desk: &mut Desk<S>, entry: &Entry) -> Result<Known, Re
     if let Entry::Account { name, account } = entry {
         enrolment_of(desk, name.as_str(), *account)
     } else {
-        Ok(Known::Nothing)
+        Ok(HintFacts::Nothing)
     }
 }
 
 /// Of an account that differs, what is known of the one that has its name.
-fn account_for<S: Alter>(desk: &mut Desk<S>, request: &Request) -> Result<Known, Refusal>
+fn account_for<S: Alter>(desk: &mut Desk<S>, request: &Request) -> Result<HintFacts, Refusal>
     ensures knows { HasCleanDisk (held S.Store desk.new).db
         → (s : State) → KeepsIfOpen (held S.Store desk.old) s
         → IfOk result (KnowsAccount s request.now) }
@@ -201,12 +185,12 @@ fn account_for<S: Alter>(desk: &mut Desk<S>, request: &Request) -> Result<Known,
     if let Request::Enter(entry) = request {
         enrolled_for(desk, entry)
     } else {
-        Ok(Known::Nothing)
+        Ok(HintFacts::Nothing)
     }
 }
 
 /// Of a year that is not open, the first of the account's years, if that is a later one.
-fn beginning<S: Alter>(desk: &mut Desk<S>, account: &str, year: u32) -> Result<Known, Refusal>
+fn beginning<S: Alter>(desk: &mut Desk<S>, account: &str, year: u32) -> Result<HintFacts, Refusal>
     ensures knows { HasCleanDisk (held S.Store desk.new).db
         → (s : State) → KeepsIfOpen (held S.Store desk.old) s
         → IfOk result (λ known.
@@ -215,13 +199,13 @@ fn beginning<S: Alter>(desk: &mut Desk<S>, account: &str, year: u32) -> Result<K
     ensures stands { StandsAsBefore (held S.Store desk.old) (held S.Store desk.new) }
 {
     match desk.first_year(account)? {
-        Some(first) if year < first => Ok(Known::Begins(first)),
-        _ => Ok(Known::Nothing),
+        Some(first) if year < first => Ok(HintFacts::Begins(first)),
+        _ => Ok(HintFacts::Nothing),
     }
 }
 
 /// Of an account that is unknown, the one that may be meant by its name.
-fn meant<S: Alter>(desk: &mut Desk<S>, account: &str) -> Result<Known, Refusal>
+fn meant<S: Alter>(desk: &mut Desk<S>, account: &str) -> Result<HintFacts, Refusal>
     ensures knows { HasCleanDisk (held S.Store desk.new).db
         → (s : State) → KeepsIfOpen (held S.Store desk.old) s
         → IfOk result (KnowsMeant s account.now) }
@@ -229,14 +213,14 @@ fn meant<S: Alter>(desk: &mut Desk<S>, account: &str) -> Result<Known, Refusal>
     ensures stands { StandsAsBefore (held S.Store desk.old) (held S.Store desk.new) }
 {
     match desk.meant_account(account)? {
-        Some(name) => Ok(Known::Meant(name)),
-        None => Ok(Known::Nothing),
+        Some(name) => Ok(HintFacts::Meant(name)),
+        None => Ok(HintFacts::Nothing),
     }
 }
 
 /// What the hints are made of: nothing where a fault came.
-pub fn or_nothing(known: Result<Known, Refusal>) -> Known
+pub fn or_nothing(known: Result<HintFacts, Refusal>) -> HintFacts
     ensures { result ≡ or_nothing known }
 {
-    known.unwrap_or(Known::Nothing)
+    known.unwrap_or(HintFacts::Nothing)
 }

@@ -4,7 +4,7 @@ ghost use Rattle.std.specs.Prelude.{◌≡◌};
 ghost use Rattle.ftd_program.specs.Performing.{AnswersThenNotes, Notes, NotesAfter, PutsNote};
 ghost use Rattle.ftd_program.specs.Performing.{asked_then};
 
-use crate::performing::{Performed, print_answer};
+use crate::performing::{JobEnd, print_answer};
 use ftd_answers::Format;
 use ftd_desk::Desk;
 use ftd_machine::{Answer, Reply, Request};
@@ -40,16 +40,16 @@ fn note<S: Alter, O, E: Target>(
     desk: &mut Desk<S>,
     db: &str,
     question: &Request,
-    performed: Performed<O, E>,
-) -> Performed<O, E>
+    performed: JobEnd<O, E>,
+) -> JobEnd<O, E>
     ensures { Notes S.Store E.taken E.failed performed result desk.old desk.new db.now
         question.now }
 {
     let answer = desk.handle(question);
-    let Performed { status, out, err } = performed;
+    let JobEnd { status, out, err } = performed;
     let mut err = err;
     put_note(db, &answer, &mut err);
-    Performed { status, out, err }
+    JobEnd { status, out, err }
 }
 
 /// Asks the desk what is said below what was performed, where this is a reply that was printed and
@@ -58,8 +58,8 @@ fn note_if_printed<S: Alter, O, E: Target>(
     desk: &mut Desk<S>,
     db: &str,
     question: Option<Request>,
-    performed: Performed<O, E>,
-) -> Performed<O, E>
+    performed: JobEnd<O, E>,
+) -> JobEnd<O, E>
     ensures { NotesAfter S.Store E.taken E.failed performed result desk.old desk.new db.now
         question }
 {
@@ -84,7 +84,7 @@ pub(crate) fn answer_then_note<S: Alter, O: Target, E: Target>(
     request: Request,
     out: O,
     err: E,
-) -> Performed<O, E>
+) -> JobEnd<O, E>
     ensures { AnswersThenNotes S.Store O.taken O.failed E.taken E.failed out err result
         desk.old desk.new db.now format request }
 {

@@ -5,7 +5,7 @@ ghost use Rattle.ftd_ports.specs.Writing.{Writes};
 ghost use Rattle.ftd_program.specs.Numbering.{next_of, number_text};
 ghost use Rattle.ftd_program.specs.Performing.{AsksNext, AsksUnder};
 
-use crate::performing::{Performed, answer, fail_output, print_answer};
+use crate::performing::{JobEnd, answer, fail_output, print_answer};
 use ftd_answers::{Format, ListFormat};
 use ftd_desk::Desk;
 use ftd_machine::{Answer, MOST_NUMBER, Refusal, Request};
@@ -46,7 +46,7 @@ pub(crate) fn ask_next<S: Alter, O: Target, E: Target>(
     request: Request,
     out: O,
     err: E,
-) -> Performed<O, E>
+) -> JobEnd<O, E>
     ensures { AsksNext S.Store O.taken O.failed E.taken E.failed out err result
         desk.old desk.new db.now request }
 {
@@ -70,7 +70,7 @@ fn ask_under<S: Alter, O: Target, E: Target>(
     number: u32,
     out: O,
     err: E,
-) -> Performed<O, E>
+) -> JobEnd<O, E>
     ensures { AsksUnder S.Store O.taken O.failed E.taken E.failed out err result
         desk.old desk.new db.now request.now number }
 {

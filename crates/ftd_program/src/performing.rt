@@ -23,21 +23,21 @@ use crate::noting::answer_then_note;
 use crate::numbering::ask_next;
 use crate::record_notes::put_refusals;
 use crate::summaries::{write_bad_header, write_summary};
-use crate::{Progress, StopCause, Stopped, Summary, import, import_trial};
-use ftd_answers::{DueText, Format, ListFormat, Unwritten};
+use crate::{ImportStop, Progress, StopCause, Summary, import, import_trial};
+use ftd_answers::{DueText, Format, ListFormat, UnwrittenText};
 use ftd_cli::Job;
 use ftd_csv::{Sheet, write_record_hints};
 use ftd_days::{Day, Quarter};
 use ftd_desk::{Desk, DueFault};
 use ftd_machine::{Answer, Question, Refusal, Reply, Request};
 use ftd_ports::Target;
-use ftd_replies::{Known, put, status_of, write_below, write_reply, write_told};
+use ftd_replies::{HintFacts, put, status_of, write_below, write_reply, write_told};
 use sqlite::Alter;
 use std::alloc::Global;
 
 /// What was done: the exit status, and where the texts went.
 #[derive(Drop)]
-pub struct Performed<O, E> {
+pub struct JobEnd<O, E> {
     /// 0 where it was answered, 1 where it was refused, 3 where memory, the store or standard
     /// output failed.
     pub status: u8,
@@ -60,7 +60,7 @@ pub fn perform<S: Alter, O: Target, E: Target, P: Progress>(
     out: O,
     err: E,
     progress: &mut P,
-) -> Performed<O, E>
+) -> JobEnd<O, E>
     ensures { Does S.Store O.taken O.failed E.taken E.failed out err result desk.old desk.new
         input.now db.now job }
 {
@@ -84,7 +84,7 @@ fn ask<S: Alter, O: Target, E: Target>(
     request: Request,
     out: O,
     err: E,
-) -> Performed<O, E>
+) -> JobEnd<O, E>
     ensures { Asks S.Store O.taken O.failed E.taken E.failed out err result
         desk.old desk.new db.now format request }
 {
@@ -106,16 +106,7 @@ fn ask<S: Alter, O: Target, E: Target>(
             out,
             err,
         ),
-        Some(
-            Question::Status { .. }
-            | Question::Explain { .. }
-            | Question::ScheduleB { .. }
-            | Question::Agenda { .. }
-            | Question::Owed { .. }
-            | Question::Unapplied { .. }
-            | Question::Kept(_),
-        )
-        | None => answer_then_note(desk, db, format, request, out, err),
+        _ => answer_then_note(desk, db, format, request, out, err),
     }
 }
 
@@ -131,7 +122,7 @@ fn ask_due<S: Alter, O: Target, E: Target>(
     as_of: Day,
     out: O,
     err: E,
-) -> Performed<O, E>
+) -> JobEnd<O, E>
     requires asked { request.now ≡ requests.Question (DueList account.now quarter as_of) }
     ensures { AsksDue S.Store O.taken O.failed E.taken E.failed out err result
         desk.old desk.new db.now (list_format format) format request.now account.now quarter as_of }
@@ -151,7 +142,7 @@ pub(crate) fn answer<S: Alter, O: Target, E: Target>(
     request: &Request,
     out: O,
     err: E,
-) -> Performed<O, E>
+) -> JobEnd<O, E>
     ensures { Performs O.taken O.failed E.taken E.failed out err result
         (held S.Store desk.old) (held S.Store desk.new) db.now format request.now }
 {
@@ -168,7 +159,7 @@ pub(crate) fn print_answer<S: Alter, O: Target, E: Target>(
     answer: &Answer,
     out: O,
     err: E,
-) -> Performed<O, E>
+) -> JobEnd<O, E>
     requires bounded { IfOk answer.now IsBounded }
     ensures { PrintsAnswer S.Store O.taken O.failed E.taken E.failed out err result
         desk.old desk.new db.now format request.now answer.now }
@@ -193,7 +184,7 @@ fn list_due<S: Alter, O: Target, E: Target>(
     as_of: Day,
     out: O,
     err: E,
-) -> Performed<O, E>
+) -> JobEnd<O, E>
     requires asked { request.now ≡ requests.Question (DueList account.now quarter as_of) }
     ensures { PerformsDue O.taken O.failed E.taken E.failed out err result
         (held S.Store desk.old) (held S.Store desk.new) db.now account.now quarter as_of }
@@ -201,12 +192,12 @@ fn list_due<S: Alter, O: Target, E: Target>(
     let mut text = DueText::begin(account, quarter, as_of, out);
     match desk.due_into(account, quarter, as_of, &mut text) {
         Ok(()) => match text.end() {
-            Ok(out) => Performed {
+            Ok(out) => JobEnd {
                 status: 0,
                 out,
                 err,
             },
-            Err(Unwritten { writer }) => fail_output(writer, err),
+            Err(UnwrittenText { writer }) => fail_output(writer, err),
         },
         Err(DueFault::Refused(refusal)) => {
             let out = text.into_writer();
@@ -227,7 +218,7 @@ fn import_or_try<S: Alter, O: Target, E: Target, P: Progress>(
     out: O,
     err: E,
     progress: &mut P,
-) -> Performed<O, E>
+) -> JobEnd<O, E>
     ensures { MatchBool is_trial
         (PerformsTrial S.Store O.taken O.failed E.taken E.failed out err result
         desk.old desk.new sheet input.now)
@@ -252,7 +243,7 @@ fn post_entries<S: Alter, O: Target, E: Target, P: Progress>(
     out: O,
     err: E,
     progress: &mut P,
-) -> Performed<O, E>
+) -> JobEnd<O, E>
     ensures { PerformsImport S.Store O.taken O.failed E.taken E.failed out err result
         desk.old desk.new sheet input.now }
 {
@@ -270,7 +261,7 @@ fn try_entries<S: Alter, O: Target, E: Target>(
     input: &[u8],
     out: O,
     err: E,
-) -> Performed<O, E>
+) -> JobEnd<O, E>
     ensures { PerformsTrial S.Store O.taken O.failed E.taken E.failed out err result
         desk.old desk.new sheet input.now }
 {
@@ -301,7 +292,7 @@ fn print_summary<S: Alter, O: Target, E: Target>(
     summary: &Summary,
     out: O,
     err: E,
-) -> Performed<O, E>
+) -> JobEnd<O, E>
     ensures { PrintsSummary O.taken O.failed E.taken E.failed out err result
         (held S.Store desk.old) (held S.Store desk.new) sheet input.now summary.now }
 {
@@ -314,7 +305,7 @@ fn print_summary<S: Alter, O: Target, E: Target>(
             if summary.malformed > 0 {
                 put_hints(alloc, sheet, input, summary.malformed, &mut err);
             }
-            Performed {
+            JobEnd {
                 status: status_in(summary),
                 out,
                 err,
@@ -337,10 +328,10 @@ fn put_hints<E: Target>(alloc: Global, sheet: Sheet, input: &[u8], most: usize, 
 fn print_stop<O: Target, E: Target>(
     sheet: Sheet,
     input: &[u8],
-    stopped: &Stopped,
+    stopped: &ImportStop,
     out: O,
     err: E,
-) -> Performed<O, E>
+) -> JobEnd<O, E>
     ensures { PrintsStop O.taken O.failed E.taken E.failed out err result
         sheet input.now stopped.now }
 {
@@ -358,7 +349,7 @@ fn print_cause<O, E: Target>(
     cause: StopCause,
     out: O,
     err: E,
-) -> Performed<O, E>
+) -> JobEnd<O, E>
     ensures status { result.status ≡ stop_status cause }
     ensures out { result.out ≡ out }
     ensures line { IsPut (E.taken err) (E.taken result.err) (E.failed result.err)
@@ -369,7 +360,7 @@ fn print_cause<O, E: Target>(
             let mut err = err;
             // Where standard error fails, the status still tells.
             let _ = write_bad_header(sheet, input, &mut err);
-            Performed {
+            JobEnd {
                 status: 1,
                 out,
                 err,
@@ -382,14 +373,14 @@ fn print_cause<O, E: Target>(
 }
 
 /// Prints a line on standard error, and answers the status.
-fn print_line<O, E: Target>(status: u8, line: &[u8], out: O, err: E) -> Performed<O, E>
+fn print_line<O, E: Target>(status: u8, line: &[u8], out: O, err: E) -> JobEnd<O, E>
     ensures status { result.status ≡ status }
     ensures out { result.out ≡ out }
     ensures line { IsPut (E.taken err) (E.taken result.err) (E.failed result.err) line.now }
 {
     let mut err = err;
     put(line, &mut err);
-    Performed { status, out, err }
+    JobEnd { status, out, err }
 }
 
 /// Puts what is said below the reply to a request of the desk of this file.
@@ -409,7 +400,7 @@ fn print_reply<O: Target, E: Target>(
     reply: &Reply,
     out: O,
     err: E,
-) -> Performed<O, E>
+) -> JobEnd<O, E>
     requires bounded { IsBounded reply.now }
     ensures { PrintsReply O.taken O.failed E.taken E.failed out err result
         (reply_text format reply.now) (below_text db.now request.now reply.now) }
@@ -419,7 +410,7 @@ fn print_reply<O: Target, E: Target>(
         Ok(()) => {
             let mut err = err;
             put_below(db, request, reply, &mut err);
-            Performed {
+            JobEnd {
                 status: 0,
                 out,
                 err,
@@ -430,7 +421,7 @@ fn print_reply<O: Target, E: Target>(
 }
 
 /// Says that standard output failed.
-pub(crate) fn fail_output<O, E: Target>(out: O, err: E) -> Performed<O, E>
+pub(crate) fn fail_output<O, E: Target>(out: O, err: E) -> JobEnd<O, E>
     ensures status { result.status ≡ 3 }
     ensures out { result.out ≡ out }
     ensures line { IsPut (E.taken err) (E.taken result.err) (E.failed result.err)
@@ -444,17 +435,17 @@ fn print_refusal<O: Target, E: Target>(
     db: &str,
     request: &Request,
     refusal: &Refusal,
-    known: &Known,
+    known: &HintFacts,
     out: O,
     err: E,
-) -> Performed<O, E>
+) -> JobEnd<O, E>
     ensures { PrintsRefusal O.taken O.failed E.taken E.failed out err result
         db.now request.now known.now refusal.now }
 {
     let mut err = err;
     // Where standard error fails, the status still tells.
     let _ = write_told(db, request, *refusal, known, &mut err);
-    Performed {
+    JobEnd {
         status: status_of(*refusal),
         out,
         err,

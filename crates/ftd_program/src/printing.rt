@@ -6,7 +6,7 @@ ghost use Rattle.ftd_program.specs.Performing.{PrintsOut};
 ghost use Rattle.ftd_program.specs.PlainLines.{IsHinted, PerformsPlain, PrintsFault, fault_hints};
 ghost use Rattle.ftd_program.specs.PlainLines.{fault_line, fault_status, record_line, run_line};
 
-use crate::performing::{Performed, fail_output};
+use crate::performing::{JobEnd, fail_output};
 use crate::{PlainFault, plain};
 use ftd_cli::PlainTask;
 use ftd_csv::{Sheet, write_header_hint, write_record_hints};
@@ -24,7 +24,7 @@ pub fn print_plain<O: Target, E: Target>(
     input: &[u8],
     out: O,
     err: E,
-) -> Performed<O, E>
+) -> JobEnd<O, E>
     ensures { PerformsPlain O.taken O.failed E.taken E.failed out err result
         input.now task.now }
 {
@@ -36,12 +36,12 @@ pub fn print_plain<O: Target, E: Target>(
 }
 
 /// Prints the text of the deposits.
-fn print_text<O: Target, E: Target>(text: &[u8], out: O, err: E) -> Performed<O, E>
+fn print_text<O: Target, E: Target>(text: &[u8], out: O, err: E) -> JobEnd<O, E>
     ensures { PrintsOut O.taken O.failed E.taken E.failed out err result 0 text.now }
 {
     let mut out = out;
     match write_all(&mut out, text) {
-        Ok(()) => Performed {
+        Ok(()) => JobEnd {
             status: 0,
             out,
             err,
@@ -57,12 +57,12 @@ fn print_fault<O, E: Target>(
     fault: PlainFault,
     out: O,
     err: E,
-) -> Performed<O, E>
+) -> JobEnd<O, E>
     ensures { PrintsFault E.taken E.failed out err result input.now fault }
 {
     let mut err = err;
     put_fault(alloc, input, fault, &mut err);
-    Performed {
+    JobEnd {
         status: status_of(fault),
         out,
         err,

@@ -69,7 +69,7 @@ pub(crate) fn read_list(
 }
 
 /// The records of a text of the sheet, and how many it has.
-pub(crate) fn counted(
+pub(crate) fn count_records(
     alloc: Global,
     sheet: Sheet,
     text: &[u8],

@@ -12,13 +12,10 @@ ghost use Rattle.ftd_program.specs.Taking.{TakesRecord, TakesRun, runs_left};
 
 use crate::fault::PlainFault;
 use ftd_csv::{Content, Records};
-use ftd_machine::{AccountName, Request};
+use ftd_machine::{AccountName, MOST_ENTRIES, Request};
 use ftd_rules::PayRun;
 use std::alloc::Global;
 use std::collections::BTreeMap;
-
-/// The most runs of an account.
-const MOST_RUNS: usize = 20_000;
 
 /// Whether the run of the employer is one of the account, with a payday in the year.
 fn is_taken(employer: &AccountName, run: &PayRun, account: &str, year: u32) -> bool
@@ -39,7 +36,7 @@ fn take_run(runs: &mut BTreeMap<u32, PayRun>, number: u32, run: &PayRun) -> Resu
     match runs.get(&number) {
         Some(known) if known == run => Ok(()),
         Some(_) => Err(PlainFault::RunDiffers(number)),
-        None if runs.len() == MOST_RUNS => Err(PlainFault::TooManyRuns),
+        None if runs.len() == MOST_ENTRIES as usize => Err(PlainFault::TooManyRuns),
         None => {
             runs.insert(number, *run)?;
             Ok(())

@@ -63,7 +63,7 @@ pub enum StopCause {
 
 /// An import that stopped: what it did up to there, and why.
 #[derive(Drop)]
-pub struct Stopped {
+pub struct ImportStop {
     /// The summary of the records before the one that stopped.
     pub done: Summary,
     pub cause: StopCause,
@@ -87,36 +87,7 @@ pub(crate) fn fault_of(answer: &Answer) -> Option<StopCause>
     match answer {
         Err(Refusal::Memory) => Some(StopCause::Memory),
         Err(Refusal::Store) => Some(StopCause::Store),
-        Ok(_) => None,
-        Err(
-            Refusal::BadName
-            | Refusal::BadYear
-            | Refusal::BadDay
-            | Refusal::BadCents
-            | Refusal::BadCalendar
-            | Refusal::BadNumber
-            | Refusal::UnknownAccount
-            | Refusal::AccountDiffers
-            | Refusal::CalendarDiffers
-            | Refusal::QuarterDiffers
-            | Refusal::RunDiffers
-            | Refusal::PaymentDiffers
-            | Refusal::UnknownRun
-            | Refusal::UnknownPayment
-            | Refusal::BeforeStart
-            | Refusal::CalendarMissing(_)
-            | Refusal::QuarterMissing(_)
-            | Refusal::YearNotOpen(_)
-            | Refusal::TooManyRuns
-            | Refusal::TooManyPayments
-            | Refusal::WrongForm
-            | Refusal::YearDiffers
-            | Refusal::YearMissing(_)
-            | Refusal::CorrectionDiffers
-            | Refusal::NumberSkipped(_)
-            | Refusal::NoHoliday
-            | Refusal::AccountInUse,
-        ) => None,
+        _ => None,
     }
 }
 

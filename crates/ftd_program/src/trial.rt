@@ -11,8 +11,8 @@ ghost use Rattle.ftd_program.specs.Trials.{FailsTrial, WouldImport, WouldPost};
 ghost use Rattle.ftd_program.specs.declared.summary.StopCause.TheVariants as cause;
 
 use crate::lists::count_all;
-use crate::reading::{RecordList, counted, read_list};
-use crate::summary::{StopCause, Stopped, Summary, cause_of};
+use crate::reading::{RecordList, count_records, read_list};
+use crate::summary::{ImportStop, StopCause, Summary, cause_of};
 use ftd_csv::Sheet;
 use ftd_desk::Desk;
 use ftd_machine::Refusal;
@@ -30,7 +30,7 @@ pub fn import_trial<S: Alter>(
     desk: &mut Desk<S>,
     sheet: Sheet,
     text: &[u8],
-) -> Result<Summary, Stopped>
+) -> Result<Summary, ImportStop>
     ensures tells { MatchResult result
         (λ summary. WouldImport (held S.Store desk.old) (held S.Store desk.new) sheet text.now
         summary)
@@ -38,20 +38,20 @@ pub fn import_trial<S: Alter>(
     ensures stands { StandsAsBefore (held S.Store desk.old) (held S.Store desk.new) }
 {
     let mut done = Summary::none(alloc);
-    let (mut records, all) = match counted(alloc, sheet, text) {
+    let (mut records, all) = match count_records(alloc, sheet, text) {
         Ok(counted) => counted,
         Err(fault) => {
             let cause = cause_of(fault);
-            return Err(Stopped { done, cause });
+            return Err(ImportStop { done, cause });
         }
     };
     let Ok(list) = read_list(alloc, &mut records, all) else {
         let cause = StopCause::Memory;
-        return Err(Stopped { done, cause });
+        return Err(ImportStop { done, cause });
     };
     match try_list(desk, &list, &mut done) {
         Ok(()) => Ok(done),
-        Err(cause) => Err(Stopped { done, cause }),
+        Err(cause) => Err(ImportStop { done, cause }),
     }
 }
 

@@ -14,11 +14,6 @@ pub record Passed (typed : List ℕ) (names : List (List ℕ)) (fewest : ℕ) (f
   pub below : (other : ℕ) → other < passed → fewest ≤ edits_to typed names other
   pub at : MatchOption found (fewest ≡ most_edits typed + 1) (IsFewest typed names fewest passed)
 
--- none was passed
-pub passed_none : (typed : List ℕ) (names : List (List ℕ))
-    → Passed typed names (most_edits typed + 1) None 0
-passed_none typed names = record { below = λ other less. omega (arith, less); at = refl }
-
 at_more : (typed : List ℕ) (names : List (List ℕ)) (fewest : ℕ) (found : Option ℕ) (passed : ℕ)
     → MatchOption found (fewest ≡ most_edits typed + 1) (IsFewest typed names fewest passed)
     → MatchOption found (fewest ≡ most_edits typed + 1) (IsFewest typed names fewest (passed + 1))
@@ -57,16 +52,4 @@ passed_nearer typed names fewest found passed edits is same fewer = record {
     near = omega (arith, fewer, at_most typed names fewest found passed is.at);
     first = λ other less. grind (arith, is.below other, fewer);
   };
-}
-
--- all were passed
-pub passed_all : (typed : List ℕ) (names : List (List ℕ)) (fewest : ℕ) (found : Option ℕ)
-    → Passed typed names fewest found (length names)
-    → MatchOption found (NoneIsNear typed names) (IsNearest typed names)
-passed_all typed names fewest None is = λ place less. grind (arith, is.below place, is.at)
-passed_all typed names fewest (Some place) is = record {
-  within = is.at.before;
-  near = grind (arith, is.at.near, is.at.is);
-  fewest = λ other less. grind (arith, is.below other, is.at.is);
-  first = λ other less. grind (arith, is.at.first other, is.at.is);
 }

@@ -1,5 +1,6 @@
 -- Which name is nearest to a mistyped one.
-use Rattle.std.specs.Prelude.{ℕ, ◌≡◌, ◌<◌, ◌≤◌, ◌/◌, ◌↔◌, List, [], length, map, min, nat_eq, get_or}
+use Rattle.std.specs.Prelude.{ℕ, ◌≡◌, ◌<◌, ◌≤◌, ◌/◌, ◌↔◌}
+use Rattle.std.specs.Prelude.{List, [], length, map, min, nat_eq, get_or}
 use Rattle.std.specs.Prelude.{Option, MatchOption}
 use Rattle.std.specs.Borrow.{Bor}
 use Rattle.std.specs.Str.{chars}

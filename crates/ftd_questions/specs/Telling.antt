@@ -43,7 +43,8 @@ TakesShown took name quarter old new t =
 -- the machine's reply to the question is the due list of these rows, or it refuses the question
 module _ (s : State) (name : List ℕ) (quarter as_of : ℕ) where
   abbrev pub Replies : List DueRow → Type 0
-  Replies rows = Step s (Question (DueList name quarter as_of)) (due_answer name quarter as_of rows) s
+  Replies rows =
+      Step s (Question (DueList name quarter as_of)) (due_answer name quarter as_of rows) s
 
   abbrev pub Refuses : Refusal → Type 0
   Refuses refusal = Step s (Question (DueList name quarter as_of)) (Err refusal) s

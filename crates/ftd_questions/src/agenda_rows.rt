@@ -14,7 +14,7 @@ ghost use Rattle.ftd_questions.specs.DueRows.{KnowsYears};
 
 use crate::due::{QuarterRows, rows_of_quarter};
 use crate::listing::due_between;
-use ftd_days::{Day, Holidays, Quarter};
+use ftd_days::{Day, FIRST_YEAR, Holidays, LAST_OPEN_YEAR, Quarter};
 use ftd_entries::known_account;
 use ftd_machine::{Account, AccountName, AgendaRow};
 use ftd_rules::period::return_period;
@@ -101,7 +101,7 @@ fn account_and_years<S: Alter>(
     quarter: Quarter,
     last: Option<QuarterList>,
 ) -> Result<(Account, Holidays), StoreFault>
-    requires { quarter_year quarter ≤ 2098 }
+    requires { quarter_year quarter ≤ LAST_OPEN_YEAR }
     ensures call { Reads S.Store tx.old tx.new result (λ found t.
         KnowsAccount name.now (Some found.0) t
         × (KnowsLastYears last t → KnowsYears quarter found.1 t)) }
@@ -130,7 +130,7 @@ fn list_of<S: Alter>(
     ensures call { Reads S.Store tx.old tx.new result (λ found t. KnowsLastYears last t
         → KnowsList name.now quarter as_of found.0 t × KnowsYears quarter found.1 t) }
 {
-    if quarter.year() < 2001 || quarter.year() > 2098 {
+    if quarter.year() < FIRST_YEAR || quarter.year() > LAST_OPEN_YEAR {
         return tx.give_up(StoreFault::Failed);
     }
     let (account, years) = account_and_years(tx, alloc, name, quarter, last)?;

@@ -11,7 +11,7 @@ ghost use Rattle.ftd_entries.specs.Words.{Serves};
 use crate::agenda_rows::rows_due;
 use ftd_days::Day;
 use ftd_machine::{
-    Agenda, AgendaRow, AgendaRows, Answer, Facts, Owed, Reply, agenda_check, owed_check,
+    Agenda, AgendaRow, AgendaRows, Answer, Facts, OwedList, Reply, agenda_check, owed_check,
 };
 use ftd_store::{StoreFault, Tx};
 use sqlite::Alter;
@@ -37,7 +37,8 @@ pub fn agenda<S: Alter>(
     to: Day,
     as_of: Day,
 ) -> Result<Answer, StoreFault>
-    ensures call { Calls S.Store tx.old tx.new result (Serves (Question (questions.Agenda from to as_of))) }
+    ensures call { Calls S.Store tx.old tx.new result
+        (Serves (Question (questions.Agenda from to as_of))) }
 {
     let rows = rows_due(tx, alloc, from, to, as_of, None)?;
     if let Err(answer) = agenda_check(from, to, as_of) {
@@ -55,13 +56,14 @@ pub fn agenda<S: Alter>(
 }
 
 /// Tells what is due until the day, over all accounts, and not paid as of a day.
-pub fn owed<S: Alter>(
+pub fn owed_list<S: Alter>(
     tx: &mut Tx<'_, S>,
     alloc: Global,
     until: Day,
     as_of: Day,
 ) -> Result<Answer, StoreFault>
-    ensures call { Calls S.Store tx.old tx.new result (Serves (Question (questions.Owed until as_of))) }
+    ensures call { Calls S.Store tx.old tx.new result
+        (Serves (Question (questions.Owed until as_of))) }
 {
     let from = Day::first_of_month(0);
     let rows = rows_due(tx, alloc, from, until, as_of, Some(as_of))?;
@@ -69,7 +71,7 @@ pub fn owed<S: Alter>(
         return Ok(answer);
     }
     match by_due_date(rows) {
-        Ok(rows) => Ok(Ok(Reply::Told(Facts::Owed(Owed {
+        Ok(rows) => Ok(Ok(Reply::Told(Facts::Owed(OwedList {
             until,
             as_of,
             rows: AgendaRows::from_vec(rows),

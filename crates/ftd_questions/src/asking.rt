@@ -18,7 +18,7 @@ ghost use Rattle.ftd_questions.specs.Walks.{Stays, StandIfOpen};
 
 use crate::due::{KnownForDue, known_for_due};
 use crate::faults::refusal_of;
-use ftd_days::{Day, Holidays, Quarter};
+use ftd_days::{Day, FIRST_YEAR, Holidays, LAST_OPEN_YEAR, Quarter};
 use ftd_entries::{ReturnFacts, return_period};
 use ftd_machine::{Refusal, due_list_check};
 use ftd_rules::{AMOUNTS_END, Form};
@@ -67,8 +67,8 @@ fn known_return<S: Alter>(
     form: Form,
     quarter: Quarter,
 ) -> Result<KnownReturn, StoreFault>
-    requires from { 2001 ≤ quarter_year quarter }
-    requires to { quarter_year quarter ≤ 2098 }
+    requires from { FIRST_YEAR ≤ quarter_year quarter }
+    requires to { quarter_year quarter ≤ LAST_OPEN_YEAR }
     ensures call { Reads S.Store tx.old tx.new result (KnowsReturn name.now quarter) }
     ensures form { IfOk result (λ known. known.form ≡ form) }
     ensures small { IfOk result (λ known.
@@ -94,7 +94,7 @@ fn asked<S: Alter>(
 ) -> Result<Result<KnownReturn, Refusal>, StoreFault>
     ensures call { Reads S.Store tx.old tx.new result (KnowsAsked name.now quarter as_of) }
     ensures years { IfOk result (λ asked. IfOk asked (λ known.
-        (2001 ≤ quarter_year quarter) × (quarter_year quarter ≤ 2098))) }
+        (FIRST_YEAR ≤ quarter_year quarter) × (quarter_year quarter ≤ LAST_OPEN_YEAR))) }
     ensures small { IfOk result (λ asked. IfOk asked (λ known.
         sum_by payment_cents known.period.payments.items < AMOUNTS_END)) }
 {
@@ -124,7 +124,7 @@ pub(crate) fn read_return<S: Alter>(
         → (IsTrue (seen S.Store store.old).is_open → ⊥)
         → MatchResult result (λ known. ⊥) (λ refusal. IsFault (Err refusal)) }
     ensures years { IfOk result (λ known.
-        (2001 ≤ quarter_year quarter) × (quarter_year quarter ≤ 2098)) }
+        (FIRST_YEAR ≤ quarter_year quarter) × (quarter_year quarter ≤ LAST_OPEN_YEAR)) }
     ensures small { IfOk result (λ known.
         sum_by payment_cents known.period.payments.items < AMOUNTS_END) }
     ensures stays { Stays (seen S.Store store.old) (seen S.Store store.new) }

@@ -10,7 +10,7 @@ ghost use Rattle.ftd_questions.specs.DueRows.{KnowsForDue, KnowsYears};
 ghost use Rattle.ftd_questions.specs.Shown.{KnowsQuarter, Shows};
 
 use crate::due_rows::{due_rows, has_next_day, quarter_return};
-use ftd_days::{Day, Holidays, Quarter};
+use ftd_days::{Day, FIRST_YEAR, Holidays, LAST_OPEN_YEAR, Quarter};
 use ftd_entries::{is_open, known_account, return_period};
 use ftd_machine::{Account, AccountName, Answer, DueList, DueRows, Facts, Reply, due_list_check};
 use ftd_rules::{DueRow, Form};
@@ -64,8 +64,8 @@ pub(crate) fn rows_of_quarter<S: Alter>(
     as_of: Day,
     holidays: Holidays,
 ) -> Result<QuarterRows, StoreFault>
-    requires from { 2001 ≤ quarter_year quarter }
-    requires to { quarter_year quarter ≤ 2098 }
+    requires from { FIRST_YEAR ≤ quarter_year quarter }
+    requires to { quarter_year quarter ≤ LAST_OPEN_YEAR }
     ensures call { Reads S.Store tx.old tx.new result (λ found t.
         KnowsYears quarter holidays t → KnowsQuarter name.now form quarter as_of found t) }
     ensures same { IfOk result (λ found. found.holidays ≡ holidays) }
@@ -99,7 +99,7 @@ pub fn due_list<S: Alter>(
     ensures shows { Calls S.Store tx.old tx.new result (λ answer before after t.
         Shows (questions.DueList name.now quarter as_of) answer t) }
 {
-    let Ok(owner) = AccountName::copied(alloc, name) else {
+    let Ok(owner) = AccountName::copy_of(alloc, name) else {
         return tx.give_up(StoreFault::Memory);
     };
     let before = known_for_due(tx, alloc, name, quarter)?;

@@ -7,7 +7,7 @@ ghost use Rattle.ftd_rules.specs.Payments.{payment_cents};
 ghost use Rattle.ftd_store.specs.Lists.{Pairs};
 ghost use Rattle.ftd_questions.specs.DueRows.{IsReturnBy, IsRowBy, begins_in, is_next_day_row};
 
-use ftd_days::{Day, Holidays, Quarter};
+use ftd_days::{Day, Holidays, LAST_OPEN_YEAR, LAST_YEAR, Quarter};
 use ftd_entries::ReturnFacts;
 use ftd_rules::{
     AMOUNTS_END, Case, DueRow, Form, Obligation, Payment, Rule, makeup, paid_by, return_due,
@@ -66,7 +66,7 @@ pub(crate) fn quarter_return(
     period: ReturnFacts,
     holidays: Holidays,
 ) -> QuarterReturn
-    requires early { quarter_year quarter ≤ 2098 }
+    requires early { quarter_year quarter ≤ LAST_OPEN_YEAR }
     requires small { sum_by payment_cents period.payments.items < AMOUNTS_END }
     ensures stands { IsReturnBy form quarter next_day period holidays result }
     ensures small { sum_by payment_cents result.payments.items < AMOUNTS_END }
@@ -108,7 +108,7 @@ pub(crate) fn due_row(
         cents,
         due,
     } = obligation;
-    if last.year() > 2098 || due.year() > 2099 || cents.0 >= AMOUNTS_END {
+    if last.year() > LAST_OPEN_YEAR || due.year() > LAST_YEAR || cents.0 >= AMOUNTS_END {
         return None;
     }
     let payments = &of_return.payments;

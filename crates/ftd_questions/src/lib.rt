@@ -16,7 +16,7 @@ mod names;
 mod telling;
 mod walking;
 
-pub use crate::agendas::{agenda, owed};
+pub use crate::agendas::{agenda, owed_list};
 pub use crate::due::due_list;
 pub use crate::faults::{DueFault, refusal_of};
 pub use crate::meant::meant_account;

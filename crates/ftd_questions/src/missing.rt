@@ -15,7 +15,7 @@ ghost use Rattle.ftd_questions.specs.Missing.{first_among, first_year, missing_f
 ghost use Rattle.ftd_questions.specs.Walks.{Stays, KeptIfOpen};
 
 use crate::faults::refusal_of;
-use ftd_days::{Cents, Day, Quarter};
+use ftd_days::{Cents, Day, FIRST_YEAR, LAST_OPEN_YEAR, Quarter};
 use ftd_entries::{enrolment, known_account};
 use ftd_machine::{Account, Refusal};
 use ftd_rules::{PayRun, Payment, Voidable, YearLine};
@@ -49,18 +49,18 @@ fn missing_in<S: Alter>(
     first: Quarter,
     year: u32,
 ) -> Result<Vec<Quarter>, StoreFault>
-    requires from { 2001 ≤ year }
-    requires to { year ≤ 2098 }
+    requires from { FIRST_YEAR ≤ year }
+    requires to { year ≤ LAST_OPEN_YEAR }
     ensures call { Reads S.Store tx.old tx.new result (KnowsMissing name.now first year) }
 {
     let quarters = 4 * (year - 2 - 1900) + 2;
     let (third, fourth) = (Quarter::at(quarters), Quarter::at(quarters + 1));
     let (next, last) = (Quarter::at(quarters + 2), Quarter::at(quarters + 3));
     let found = [
-        (third, tx.reported(name, third)?),
-        (fourth, tx.reported(name, fourth)?),
-        (next, tx.reported(name, next)?),
-        (last, tx.reported(name, last)?),
+        (third, tx.reported_total(name, third)?),
+        (fourth, tx.reported_total(name, fourth)?),
+        (next, tx.reported_total(name, next)?),
+        (last, tx.reported_total(name, last)?),
     ];
     match are_missing(alloc, &found, first) {
         Ok(quarters) => Ok(quarters),
@@ -78,8 +78,8 @@ pub fn missing_quarters<S: Alter>(
     first: Quarter,
     year: u32,
 ) -> Result<Vec<Quarter>, Refusal>
-    requires from { 2001 ≤ year }
-    requires to { year ≤ 2098 }
+    requires from { FIRST_YEAR ≤ year }
+    requires to { year ≤ LAST_OPEN_YEAR }
     ensures knows { HasCleanDisk (seen S.Store store.new) → (s : State)
         → KeptIfOpen (seen S.Store store.old) s
         → IfOk result (λ quarters.

@@ -13,7 +13,7 @@ ghost use Rattle.ftd_questions.specs.Walks.{Stays, StaysIfSettled, StandIfOpen};
 ghost use Rattle.ftd_questions.specs.Walks.{KnowsNextDay, KnowsNextDayOfReturn};
 
 use crate::due_rows::is_next_day;
-use ftd_days::Quarter;
+use ftd_days::{LAST_OPEN_YEAR, Quarter};
 use ftd_rules::Form;
 use ftd_store::{Store, StoreFault, next_obligation, rows_of};
 use sqlite::{Alter, Connection, Rows};
@@ -58,7 +58,7 @@ fn begins_next_day<S: Alter>(
 /// The first of the quarters of the return period of a quarter, and the first after them, by their
 /// number after the first of 1900.
 fn quarters_of_return(form: Form, quarter: Quarter) -> (u32, u32)
-    requires { quarter_year quarter ≤ 2098 }
+    requires { quarter_year quarter ≤ LAST_OPEN_YEAR }
     ensures some { result.0 < result.1 }
     ensures end { result.1 < 1200 }
     ensures same { (day : ℕ) → (return_period_of form day ≡ return_period form quarter)
@@ -83,7 +83,7 @@ pub(crate) fn return_has_next_day<S: Alter>(
     form: Form,
     quarter: Quarter,
 ) -> Result<bool, StoreFault>
-    requires { quarter_year quarter ≤ 2098 }
+    requires { quarter_year quarter ≤ LAST_OPEN_YEAR }
     ensures knows { HasCleanDisk (seen S.Store store.new) → IfOk result (λ found. (t : Tables)
         → StandIfOpen (seen S.Store store.old) t
         → KnowsNextDayOfReturn name.now form quarter found t) }

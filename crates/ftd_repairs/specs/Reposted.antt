@@ -29,8 +29,8 @@ pub record Places (account : List ℕ) (day : ℕ) (lines : List YearLine) (patc
   pub put : PutsInto account lines patch lines_after old new
   pub years : AreOnOtherSchedules lines lines_after difference.years
 
--- a patch was put in place that is right, and it is told how the obligations differ, and which lines
--- are on another schedule
+-- a patch was put in place that is right, and it is told how the obligations differ, and which
+-- lines are on another schedule
 pub record Repatches (account : List ℕ) (day : ℕ) (lines : List YearLine)
     (IsRight : Patch → Type 0) (difference : Difference) (old new : Tables) : Type 0 where
   pub patch : Patch

@@ -8,7 +8,7 @@ ghost use Rattle.ftd_store.specs.Frame.{Reads};
 ghost use Rattle.ftd_repairs.specs.Calendars.{KnowsYears};
 ghost use Rattle.ftd_repairs.specs.Replaced.{AreBetween};
 
-use ftd_days::{Day, Holidays};
+use ftd_days::{Day, Holidays, LAST_OPEN_YEAR};
 use ftd_rules::{Obligation, YearLine};
 use ftd_store::{StoreFault, Tx};
 use sqlite::Alter;
@@ -25,7 +25,8 @@ pub struct KnownYears {
 
 /// A year that comes after those of the lines, where they are of years up to 2098.
 fn year_after(lines: &[YearLine]) -> u32
-    ensures { (line : YearLine) → Has lines.now line → line.year ≤ 2098 → line.year < result }
+    ensures { (line : YearLine) → Has lines.now line → line.year ≤ LAST_OPEN_YEAR
+        → line.year < result }
 {
     let mut end = 0;
     for line in lines {

@@ -14,7 +14,7 @@ ghost use Rattle.ftd_repairs.specs.Anew.{ReplacesFrom};
 use crate::reading::known_obligations;
 use crate::windows::window_sums;
 use ftd_buckets::{Patch, Window, opens};
-use ftd_days::{Day, Holidays};
+use ftd_days::{Day, FIRST_YEAR, Holidays, LAST_OPEN_YEAR};
 use ftd_rules::year::{add_year, first_day, last_day};
 use ftd_rules::{AMOUNTS_END, DaySum, Form, Obligation, Obligations, YearLine, YearLines};
 use ftd_store::{StoreFault, Tx};
@@ -71,8 +71,8 @@ fn add_sums(
     total: u64,
     known: Anew,
 ) -> Result<Anew, AllocError>
-    requires from { 2001 ≤ line.now.year }
-    requires to { line.now.year ≤ 2098 }
+    requires from { FIRST_YEAR ≤ line.now.year }
+    requires to { line.now.year ≤ LAST_OPEN_YEAR }
     requires rise { SumsRise (year_start line.now.year) (year_last line.now.year) sums.now }
     requires small { sum_by cents_of sums.now < AMOUNTS_END }
     ensures adds { IfOk result
@@ -109,8 +109,8 @@ fn add_anew<S: Alter>(
     holidays: &Holidays,
     known: Anew,
 ) -> Result<Anew, StoreFault>
-    requires from { 2001 ≤ line.now.year }
-    requires to { line.now.year ≤ 2098 }
+    requires from { FIRST_YEAR ≤ line.now.year }
+    requires to { line.now.year ≤ LAST_OPEN_YEAR }
     requires small { known.total < AMOUNTS_END }
     ensures call { Reads S.Store tx.old tx.new result
         (AddsYearOf account.now form line.now (holidays_of holidays.now) known) }
@@ -178,8 +178,8 @@ pub(crate) fn reopened<S: Alter>(
 ) -> Result<Replacement, StoreFault>
     requires at { IsAt year lines.now at }
     requires years { AreOpenYears (drop at lines.now) }
-    requires from { 2001 ≤ year }
-    requires to { year ≤ 2098 }
+    requires from { FIRST_YEAR ≤ year }
+    requires to { year ≤ LAST_OPEN_YEAR }
     ensures call { Reads S.Store tx.old tx.new result
         (ReopensRows account.now form year lines.now (holidays_of holidays.now)) }
 {

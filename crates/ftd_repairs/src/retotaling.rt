@@ -11,7 +11,7 @@ ghost use Rattle.ftd_repairs.specs.Rescheduled.{HasLines};
 use crate::patching::{is_storable, lines_from, place_patch, put_line};
 use crate::reading::{KnownYears, known_years};
 use crate::reopening::{Replacement, reopened};
-use ftd_days::{Cents, Day, Holidays};
+use ftd_days::{Cents, Day, FIRST_YEAR, Holidays, LAST_OPEN_YEAR};
 use ftd_machine::Difference;
 use ftd_rules::year::first_day;
 use ftd_rules::{Form, YearLine};
@@ -22,8 +22,8 @@ use std::alloc::Global;
 /// Where the line of the year is among these. None where the year is not open, and where the lines
 /// from it on are none of years without a gap.
 fn place_of(lines: &[YearLine], year: u32) -> Option<usize>
-    requires from { 2001 ≤ year }
-    requires to { year ≤ 2098 }
+    requires from { FIRST_YEAR ≤ year }
+    requires to { year ≤ LAST_OPEN_YEAR }
     ensures at { IfSome result (IsAt year lines.now) }
     ensures years { IfSome result (λ at. AreOpenYears (drop at lines.now)) }
 {
@@ -55,8 +55,8 @@ fn put_total<S: Alter>(
     lines: &mut [YearLine],
     holidays: &Holidays,
 ) -> Result<Difference, StoreFault>
-    requires from { 2001 ≤ year }
-    requires to { year ≤ 2098 }
+    requires from { FIRST_YEAR ≤ year }
+    requires to { year ≤ LAST_OPEN_YEAR }
     ensures call { Rewrites S.Store tx.old tx.new result (λ difference old new.
         HasLines account.now lines.old old
         → Retotals account.now form day year total lines.old (holidays_of holidays.now) difference
@@ -92,8 +92,8 @@ pub fn correct_lookback<S: Alter>(
     year: u32,
     total: Cents,
 ) -> Result<Difference, StoreFault>
-    requires from { 2001 ≤ year }
-    requires to { year ≤ 2098 }
+    requires from { FIRST_YEAR ≤ year }
+    requires to { year ≤ LAST_OPEN_YEAR }
     ensures call { Rewrites S.Store tx.old tx.new result (λ difference old new.
         IsRetotaled account.now form day year total old new difference) }
 {

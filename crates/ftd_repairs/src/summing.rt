@@ -6,7 +6,7 @@ ghost use Rattle.ftd_rules.specs.Liability.{share, liability};
 ghost use Rattle.ftd_repairs.specs.Reposted.{AddsRun};
 
 use ftd_rules::{DaySum, PayRun};
-use ftd_store::{StoreFault, added, sum_of};
+use ftd_store::{StoreFault, add_cents, sum_of};
 
 /// Adds an amount to the sum of its day, or in the place of that day where there is none. `Failed`
 /// where they are more than a `u64` of cents, `Memory` where there is none.
@@ -16,7 +16,7 @@ fn add_sum(sums: &mut Vec<DaySum>, sum: DaySum) -> Result<(), StoreFault>
 {
     let at = sums.partition_point(|other| other.day < sum.day);
     if at < sums.len() && sums[at].day == sum.day {
-        sums[at].cents = added(sums[at].cents, sum.cents)?;
+        sums[at].cents = add_cents(sums[at].cents, sum.cents)?;
         return Ok(());
     }
     sums.insert(at, sum)?;

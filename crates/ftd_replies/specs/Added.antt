@@ -38,8 +38,8 @@ more_note (x ∷ more) =
 unfoldable pub added_notes : List Obligation → List ℕ
 added_notes rows = flat_map added_note (take 20 rows) ++ more_note (drop 20 rows)
 
--- a year, and from when on it is semiweekly: `note: 2024 is semiweekly from its first day`,
--- `note: 2024 is semiweekly after 2024-05-10, when 100000.00 was reached`, or `note: 2024 is monthly`
+-- a year, and from when on it is semiweekly: `note: 2024 is semiweekly from its first day`, `note:
+-- 2024 is semiweekly after 2024-05-10, when 100000.00 was reached`, or `note: 2024 is monthly`
 abbrev pub schedule_words : List ℕ → Kind → Option ℕ → List ℕ
 schedule_words year kind.Semiweekly turn =
     concat (codes "note: " ∷ year ∷ codes " is semiweekly from its first day\n" ∷ [])

@@ -54,12 +54,7 @@ rows_hint rows = if list_any depends rows then depends_hint else []
 abbrev pub told_hint : Facts → List ℕ
 told_hint (facts.Agenda agenda) = rows_hint agenda.rows
 told_hint (facts.Owed owed) = rows_hint owed.rows
-told_hint (facts.Status schedule) = []
-told_hint (facts.Explained explained) = []
-told_hint (facts.Due list) = []
-told_hint (facts.Days list) = []
-told_hint (facts.Unapplied unapplied) = []
-told_hint (facts.Kept rows) = []
+told_hint other = []
 
 -- below the reply to a request, for the desk of this file
 abbrev pub below_text : List ℕ → Request → Reply → List ℕ

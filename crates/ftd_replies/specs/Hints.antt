@@ -22,10 +22,10 @@ use Rattle.ftd_replies.specs.Enrolment.{enrolment_text}
 use Rattle.ftd_replies.specs.Refusals.{refusal_text}
 use Rattle.ftd_replies.specs.declared.hints.Hint.{Hint}
 use Rattle.ftd_replies.specs.declared.hints.Hint.TheVariants as hint
-use Rattle.ftd_replies.specs.declared.hints.Known.{Known}
-use Rattle.ftd_replies.specs.declared.hints.Known.TheVariants.{Nothing, Missing, Given, Begins}
+use Rattle.ftd_replies.specs.declared.hints.HintFacts.{HintFacts}
+use Rattle.ftd_replies.specs.declared.hints.HintFacts.TheVariants.{Nothing, Missing, Given, Begins}
 use Rattle.ftd_replies.specs.Differing.{difference_text}
-use Rattle.ftd_replies.specs.declared.hints.Known.TheVariants.{Meant, Differs, Enrolled}
+use Rattle.ftd_replies.specs.declared.hints.HintFacts.TheVariants.{Meant, Differs, Enrolled}
 
 -- the account that a request names, the empty text where it names none; and the number of its run
 -- or payment
@@ -124,19 +124,7 @@ said_text asked refusal.NoHoliday =
     codes "hint: the day was never a holiday; ftd add-holiday adds one\n"
 said_text asked refusal.AccountInUse =
     codes "hint: a total is reported, or a year is open; enrol a new account by another name\n"
-said_text asked refusal.UnknownAccount = []
-said_text asked refusal.AccountDiffers = []
-said_text asked refusal.QuarterDiffers = []
-said_text asked refusal.YearDiffers = []
-said_text asked (refusal.NumberSkipped count) = []
-said_text asked refusal.RunDiffers = []
-said_text asked refusal.PaymentDiffers = []
-said_text asked (refusal.CalendarMissing year) = []
-said_text asked (refusal.QuarterMissing quarter) = []
-said_text asked (refusal.YearNotOpen year) = []
-said_text asked refusal.Memory = []
-said_text asked refusal.Store = []
-said_text asked (refusal.YearMissing year) = []
+said_text asked other = []
 
 -- ---- the hint of a refusal: a command that mends it, or what is said of it
 
@@ -210,24 +198,7 @@ hint_of refusal.AccountDiffers = hint.Correct
 hint_of refusal.QuarterDiffers = hint.Correct
 hint_of refusal.YearDiffers = hint.Correct
 hint_of (refusal.NumberSkipped count) = hint.Next count
-hint_of refusal.BadName = hint.Said
-hint_of refusal.BadYear = hint.Said
-hint_of refusal.BadDay = hint.Said
-hint_of refusal.BadCents = hint.Said
-hint_of refusal.BadCalendar = hint.Said
-hint_of refusal.BadNumber = hint.Said
-hint_of refusal.CalendarDiffers = hint.Said
-hint_of refusal.UnknownRun = hint.Said
-hint_of refusal.UnknownPayment = hint.Said
-hint_of refusal.BeforeStart = hint.Said
-hint_of refusal.TooManyRuns = hint.Said
-hint_of refusal.TooManyPayments = hint.Said
-hint_of refusal.Memory = hint.Said
-hint_of refusal.Store = hint.Said
-hint_of refusal.WrongForm = hint.Said
-hint_of refusal.CorrectionDiffers = hint.Said
-hint_of refusal.NoHoliday = hint.Said
-hint_of refusal.AccountInUse = hint.Said
+hint_of other = hint.Said
 
 -- the command, or what is said
 abbrev pub mended_text : List ℕ → Request → Refusal → Hint → List ℕ
@@ -299,7 +270,7 @@ abbrev pub meant_line : List ℕ → List ℕ
 meant_line name = concat (codes "hint: is " ∷ name ∷ codes " meant?\n" ∷ [])
 
 -- the hints of a refusal, with what is known for them
-unfoldable pub hints_text : List ℕ → Request → Refusal → Known → List ℕ
+unfoldable pub hints_text : List ℕ → Request → Refusal → HintFacts → List ℕ
 hints_text db asked refusal Nothing = hint_text db asked refusal
 hints_text db asked refusal (Missing quarters) =
     flat_map (quarter_hint db (account_in asked)) quarters.items
@@ -311,5 +282,5 @@ hints_text db asked refusal (Differs differing) =
     codes "hint: " ++ (difference_text differing ++ (codes "\n" ++ hint_text db asked refusal))
 
 -- the line of a refusal, and its hints below it
-unfoldable pub told_text : List ℕ → Request → Refusal → Known → List ℕ
+unfoldable pub told_text : List ℕ → Request → Refusal → HintFacts → List ℕ
 told_text db asked refusal known = refusal_text refusal ++ hints_text db asked refusal known

@@ -1,5 +1,6 @@
 -- What the desk is asked after a reply, and what is said of its answer below the reply.
-use Rattle.std.specs.Prelude.{ℕ, ◌-◌, nat_lt, List, [], ◌∷◌, ◌++◌, codes, length, Option, None, Some}
+use Rattle.std.specs.Prelude.{ℕ, ◌-◌, nat_lt, List, [], ◌∷◌}
+use Rattle.std.specs.Prelude.{◌++◌, codes, length, Option, None, Some}
 use Rattle.std.specs.Prelude.{if◌then◌else◌}
 use Rattle.std.specs.Fmt.{decimal}
 use Rattle.std.specs.List.{concat, sum_by}
@@ -78,9 +79,4 @@ unapplied_hint db (x ∷ rows) =
 abbrev pub note_text : List ℕ → Facts → List ℕ
 note_text db (facts.Explained explained) = payment_note explained.found
 note_text db (facts.Unapplied unapplied) = unapplied_hint db unapplied.rows
-note_text db (facts.Status schedule) = []
-note_text db (facts.Due list) = []
-note_text db (facts.Days list) = []
-note_text db (facts.Agenda agenda) = []
-note_text db (facts.Owed owed) = []
-note_text db (facts.Kept rows) = []
+note_text db other = []

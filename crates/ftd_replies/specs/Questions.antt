@@ -1,7 +1,7 @@
 -- What is said where a year or a day of a question is out of range.
 use Rattle.std.specs.Prelude.{List, ℕ, codes}
-use Rattle.ftd_machine.specs.declared.requests.Kept.{Kept as WhatIsKept}
-use Rattle.ftd_machine.specs.declared.requests.Kept.TheVariants as kept
+use Rattle.ftd_machine.specs.declared.requests.KeptList.{KeptList}
+use Rattle.ftd_machine.specs.declared.requests.KeptList.TheVariants as kept
 use Rattle.ftd_machine.specs.declared.requests.Question.{Question}
 use Rattle.ftd_machine.specs.declared.requests.Question.TheVariants.{Status, Explain, DueList}
 use Rattle.ftd_machine.specs.declared.requests.Question.TheVariants.{ScheduleB, Agenda, Owed, Kept}
@@ -13,23 +13,13 @@ paydays_years = codes "hint: the years of paydays are 2001 to 2098\n"
 abbrev pub calendars_years : List ℕ
 calendars_years = codes "hint: the years of calendars are 2001 to 2099\n"
 
-abbrev pub years_kept : WhatIsKept → List ℕ
-years_kept kept.Accounts = paydays_years
-years_kept (kept.Years account) = paydays_years
-years_kept (kept.Reported account) = paydays_years
+abbrev pub years_kept : KeptList → List ℕ
 years_kept (kept.Holidays year) = calendars_years
-years_kept (kept.Runs account quarter) = paydays_years
-years_kept (kept.Payments account quarter) = paydays_years
+years_kept other = paydays_years
 
 abbrev pub years_asked : Question → List ℕ
-years_asked (Status account day) = paydays_years
-years_asked (Explain account day) = paydays_years
-years_asked (DueList account quarter as_of) = paydays_years
-years_asked (ScheduleB account quarter) = paydays_years
-years_asked (Agenda from to as_of) = paydays_years
-years_asked (Owed until as_of) = paydays_years
-years_asked (Unapplied until) = paydays_years
 years_asked (Kept asked) = years_kept asked
+years_asked other = paydays_years
 
 abbrev pub paydays_days : List ℕ
 paydays_days = codes "hint: the days of paydays are those of 2001 to 2098\n"

@@ -57,13 +57,7 @@ asked_text (word.Format formats) = formats_text formats
 asked_text word.Holidays = day_form
 asked_text word.Port = codes "a port from 0 to 65535"
 asked_text word.Wait = codes "a number of seconds from 0 to 3600"
-asked_text word.Db = allowed
-asked_text word.Connections = allowed
-asked_text word.Idle = allowed
-asked_text word.Silence = allowed
-asked_text word.Duration = allowed
-asked_text word.CsvFile = allowed
-asked_text word.Check = allowed
+asked_text other = allowed
 
 -- the value that was given; it is told in words where it is empty, and where it is not known
 abbrev pub given_text : Option (List ℕ) → List ℕ

@@ -96,12 +96,7 @@ fn write_told_hint<W: Target>(facts: &Facts, target: &mut W) -> Result<(), Write
     match facts {
         Facts::Agenda(agenda) => write_depends(agenda.rows.as_slice(), target),
         Facts::Owed(owed) => write_depends(owed.rows.as_slice(), target),
-        Facts::Status(_)
-        | Facts::Explained(_)
-        | Facts::Due(_)
-        | Facts::Days(_)
-        | Facts::Unapplied(_)
-        | Facts::Kept(_) => write_all(target, b""),
+        _ => write_all(target, b""),
     }
 }
 

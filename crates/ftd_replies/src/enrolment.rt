@@ -47,7 +47,8 @@ fn write_correction<W: Target>(
     write_of(before, db, name, &start, end, target)
 }
 
-/// Writes what can be done: the account is corrected while nothing rests on it, but its form is not.
+/// Writes what can be done: the account is corrected while nothing rests on it, but its form is
+/// not.
 #[tactic(auto, unfolding(crate::specs::Enrolment::advice_text))]
 fn write_advice<W: Target>(
     db: &str,

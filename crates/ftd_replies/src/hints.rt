@@ -29,7 +29,7 @@ use itoa::Buffer;
 
 /// What was asked of the desk for the hints of a refusal.
 #[derive(Drop)]
-pub enum Known {
+pub enum HintFacts {
     /// Nothing.
     Nothing,
     /// The quarters of the lookback period whose totals are not reported.
@@ -52,7 +52,7 @@ pub fn write_told<W: Target>(
     db: &str,
     request: &Request,
     refusal: Refusal,
-    known: &Known,
+    known: &HintFacts,
     target: &mut W,
 ) -> Result<(), WriteFault>
     ensures { Writes result (W.taken target.old) (W.taken target.new)
@@ -69,20 +69,20 @@ fn write_hints<W: Target>(
     db: &str,
     request: &Request,
     refusal: Refusal,
-    known: &Known,
+    known: &HintFacts,
     target: &mut W,
 ) -> Result<(), WriteFault>
     ensures { Writes result (W.taken target.old) (W.taken target.new)
         (W.failed target.new) (hints_text db.now request.now refusal known.now) }
 {
     match known {
-        Known::Nothing => write_hint(db, request, refusal, target),
-        Known::Missing(quarters) => write_missing(db, account_in(request), quarters, target),
-        Known::Given(given) => write_differing(db, days_in(request), given, target),
-        Known::Begins(first) => write_first(*first, target),
-        Known::Meant(name) => write_meant(db, request, refusal, name.as_str(), target),
-        Known::Differs(differing) => write_differs(db, request, refusal, differing, target),
-        Known::Enrolled(enrolment) => {
+        HintFacts::Nothing => write_hint(db, request, refusal, target),
+        HintFacts::Missing(quarters) => write_missing(db, account_in(request), quarters, target),
+        HintFacts::Given(given) => write_differing(db, days_in(request), given, target),
+        HintFacts::Begins(first) => write_first(*first, target),
+        HintFacts::Meant(name) => write_meant(db, request, refusal, name.as_str(), target),
+        HintFacts::Differs(differing) => write_differs(db, request, refusal, differing, target),
+        HintFacts::Enrolled(enrolment) => {
             write_enrolment(db, account_in(request), enrolment, target)
         }
     }
@@ -532,24 +532,7 @@ fn hint_of(refusal: &Refusal) -> Hint
         Refusal::YearMissing(year) => Hint::ReportYear(*year),
         Refusal::NumberSkipped(count) => Hint::Next(*count),
         Refusal::AccountDiffers | Refusal::QuarterDiffers | Refusal::YearDiffers => Hint::Correct,
-        Refusal::BadName
-        | Refusal::BadYear
-        | Refusal::BadDay
-        | Refusal::BadCents
-        | Refusal::BadCalendar
-        | Refusal::BadNumber
-        | Refusal::CalendarDiffers
-        | Refusal::UnknownRun
-        | Refusal::UnknownPayment
-        | Refusal::BeforeStart
-        | Refusal::TooManyRuns
-        | Refusal::TooManyPayments
-        | Refusal::Memory
-        | Refusal::Store
-        | Refusal::WrongForm
-        | Refusal::CorrectionDiffers
-        | Refusal::NoHoliday
-        | Refusal::AccountInUse => Hint::Said,
+        _ => Hint::Said,
     }
 }
 
@@ -714,18 +697,6 @@ fn said(request: &Request, refusal: Refusal) -> &'static [u8]
         Refusal::AccountInUse => {
             b"hint: a total is reported, or a year is open; enrol a new account by another name\n"
         }
-        Refusal::UnknownAccount
-        | Refusal::AccountDiffers
-        | Refusal::QuarterDiffers
-        | Refusal::YearDiffers
-        | Refusal::NumberSkipped(_)
-        | Refusal::RunDiffers
-        | Refusal::PaymentDiffers
-        | Refusal::CalendarMissing(_)
-        | Refusal::QuarterMissing(_)
-        | Refusal::YearNotOpen(_)
-        | Refusal::Memory
-        | Refusal::Store
-        | Refusal::YearMissing(_) => b"",
+        _ => b"",
     }
 }

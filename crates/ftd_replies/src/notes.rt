@@ -1,5 +1,5 @@
-//! What the desk is asked after a reply, and what is said of its answer below the reply: a line that
-//! begins with `note: ` or `hint: `.
+//! What the desk is asked after a reply, and what is said of its answer below the reply: a line
+//! that begins with `note: ` or `hint: `.
 
 ghost use Rattle.std.specs.Prelude.{◌≡◌};
 ghost use Rattle.ftd_machine.specs.Questions.{question_of};
@@ -10,7 +10,7 @@ ghost use Rattle.ftd_replies.specs.Notes.{counts_text, kept_cents, note_text, pa
 ghost use Rattle.ftd_replies.specs.Notes.{rest_text, unapplied_hint};
 
 use crate::hints::file_bytes;
-use ftd_answers::{Counted, amount_text, day_bytes, total};
+use ftd_answers::{RowAmount, amount_text, day_bytes, total};
 use ftd_days::Cents;
 use ftd_machine::{Explanation, Facts, KeptPayment, Question, Reply, Request, UnappliedRow};
 use ftd_ports::{Target, WriteFault, write_all, write_pieces};
@@ -67,7 +67,7 @@ pub fn asked_after(request: Request, reply: &Reply) -> Option<Request>
 #[derive(Drop)]
 struct Paid;
 
-impl Counted<KeptPayment> for Paid {
+impl RowAmount<KeptPayment> for Paid {
     ghost counted = { λ counts row. kept_cents row };
 
     fn cents(&self, row: &KeptPayment) -> Cents {
@@ -161,11 +161,6 @@ pub fn write_note<W: Target>(db: &str, facts: &Facts, target: &mut W) -> Result<
     match facts {
         Facts::Explained(explained) => write_payment_note(&explained.found, target),
         Facts::Unapplied(unapplied) => write_unapplied_hint(db, unapplied.rows.as_slice(), target),
-        Facts::Status(_)
-        | Facts::Due(_)
-        | Facts::Days(_)
-        | Facts::Agenda(_)
-        | Facts::Owed(_)
-        | Facts::Kept(_) => write_all(target, b""),
+        _ => write_all(target, b""),
     }
 }

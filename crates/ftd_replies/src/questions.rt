@@ -3,30 +3,17 @@
 ghost use Rattle.std.specs.Prelude.{◌≡◌};
 ghost use Rattle.ftd_replies.specs.Questions.{days_asked, years_asked};
 
-use ftd_machine::{Kept, Question};
+use ftd_machine::{KeptList, Question};
 
 /// What is said of a year of a question that is out of range.
 pub fn years_asked(question: &Question) -> &'static [u8]
     ensures { result.now ≡ years_asked question.now }
 {
     match question {
-        Question::Kept(Kept::Holidays { .. }) => {
+        Question::Kept(KeptList::Holidays { .. }) => {
             b"hint: the years of calendars are 2001 to 2099\n"
         }
-        Question::Kept(
-            Kept::Accounts
-            | Kept::Years { .. }
-            | Kept::Reported { .. }
-            | Kept::Runs { .. }
-            | Kept::Payments { .. },
-        )
-        | Question::Status { .. }
-        | Question::Explain { .. }
-        | Question::DueList { .. }
-        | Question::ScheduleB { .. }
-        | Question::Agenda { .. }
-        | Question::Owed { .. }
-        | Question::Unapplied { .. } => b"hint: the years of paydays are 2001 to 2098\n",
+        _ => b"hint: the years of paydays are 2001 to 2098\n",
     }
 }
 
@@ -40,9 +27,6 @@ pub fn days_asked(question: &Question) -> &'static [u8]
             b"hint: an agenda is of days of 2001 to 2099\n"
         }
         Question::Unapplied { .. } => b"hint: UNTIL must be in 2001 to 2099\n",
-        Question::Status { .. }
-        | Question::Explain { .. }
-        | Question::ScheduleB { .. }
-        | Question::Kept(_) => { b"hint: the days of paydays are those of 2001 to 2098\n" }
+        _ => b"hint: the days of paydays are those of 2001 to 2098\n",
     }
 }

@@ -4,12 +4,12 @@ ghost use Rattle.std.specs.Prelude.{◌≡◌, ◌∷◌, [], codes};
 ghost use Rattle.std.specs.Fmt.{decimal};
 ghost use Rattle.ftd_days.specs.Text.{quarter_text};
 ghost use Rattle.ftd_ports.specs.Writing.{Writes};
-ghost use Rattle.ftd_replies.specs.Refusals.{line_of, named_text, refusal_status};
+ghost use Rattle.ftd_replies.specs.Refusals.{line_of, subject_text, refusal_status};
 ghost use Rattle.ftd_replies.specs.Refusals.{refusal_text, verb_text};
 
 use ftd_answers::quarter_bytes;
 use ftd_days::Quarter;
-use ftd_machine::{Named, Refusal};
+use ftd_machine::{Refusal, Subject};
 use ftd_ports::{Target, WriteFault, write_pieces};
 use itoa::Buffer;
 
@@ -38,7 +38,7 @@ pub fn write_refusal<W: Target>(refusal: &Refusal, target: &mut W) -> Result<(),
         (W.failed target.new) (refusal_text refusal.now) }
 {
     write_line(
-        refusal.named(),
+        refusal.subject(),
         verb_of(*refusal),
         refusal.number(),
         refusal.name().as_bytes(),
@@ -48,20 +48,20 @@ pub fn write_refusal<W: Target>(refusal: &Refusal, target: &mut W) -> Result<(),
 
 /// Writes the line of a refusal that names this, with this verb, number and name.
 fn write_line<W: Target>(
-    named: Named,
+    named: Subject,
     verb: &[u8],
     number: u8,
     name: &[u8],
     target: &mut W,
 ) -> Result<(), WriteFault>
     ensures { Writes result (W.taken target.old) (W.taken target.new)
-        (W.failed target.new) (line_of verb.now number name.now (named_text named)) }
+        (W.failed target.new) (line_of verb.now number name.now (subject_text named)) }
 {
     match named {
-        Named::Nothing => write_plain(verb, number, name, target),
-        Named::Year(year) => write_number(verb, number, name, year, target),
-        Named::Number(count) => write_number(verb, number, name, count, target),
-        Named::Quarter(quarter) => write_quarter(verb, number, name, quarter, target),
+        Subject::Nothing => write_plain(verb, number, name, target),
+        Subject::Year(year) => write_number(verb, number, name, year, target),
+        Subject::Number(count) => write_number(verb, number, name, count, target),
+        Subject::Quarter(quarter) => write_quarter(verb, number, name, quarter, target),
     }
 }
 

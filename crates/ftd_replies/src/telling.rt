@@ -87,13 +87,7 @@ fn asked_bytes(word: Word) -> &'static [u8]
         Word::Holidays => DAY_FORM,
         Word::Port => b"a port from 0 to 65535",
         Word::Wait => b"a number of seconds from 0 to 3600",
-        Word::Db
-        | Word::Connections
-        | Word::Idle
-        | Word::Silence
-        | Word::Duration
-        | Word::CsvFile
-        | Word::Check => ALLOWED,
+        _ => ALLOWED,
     }
 }
 

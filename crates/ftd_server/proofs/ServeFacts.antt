@@ -21,7 +21,7 @@ use Rattle.httparse.specs.Spans.{span_bytes}
 use Rattle.ftd_server.specs.Responses.{Said, response_text}
 use Rattle.ftd_http.specs.Asking.{asked_of}
 use Rattle.ftd_server.specs.Replying.{Responds}
-use Rattle.ftd_http.specs.declared.ask.Asked.{Asked}
+use Rattle.ftd_http.specs.declared.ask.Inquiry.{Inquiry}
 use Rattle.ftd_server.specs.Serving.{Ends, closed, truncated, bad, asked, limit, idled}
 use Rattle.ftd_server.specs.Serving.{closes_after, refusal_text, IsAnswer, none, more, Broken}
 use Rattle.ftd_server.specs.Serving.{refusal_count}
@@ -30,7 +30,7 @@ use Rattle.ftd_server.specs.Serving.{in_refusal, Breaks, HasEnded, HasFailed, Ta
 use Rattle.ftd_server.specs.declared.connection.End.{End}
 use Rattle.ftd_server.specs.declared.connection.End.TheVariants as end
 use Rattle.ftd_server.specs.declared.connection.Cause.{Cause}
-use Rattle.ftd_server.specs.declared.connection.Served.{Served}
+use Rattle.ftd_server.specs.declared.connection.ServedConnection.{ServedConnection}
 use Rattle.ftd_server.specs.declared.connection.Cause.TheVariants as why
 
 -- one more message of the bytes
@@ -134,7 +134,7 @@ module _ {M : Type 0} (goes : M → Request → Answer → M → Type 0) where
 
   -- the connection ends, where it tells of a refusal at most
   ends_with : {start now : M} {left left' taken mid taken' : Option (List ℕ)} {kept : List ℕ}
-      {answered : ℕ} {is_idle : Bool} {served : Served} (refusal : Option Status)
+      {answered : ℕ} {is_idle : Bool} {served : ServedConnection} (refusal : Option Status)
       → (talk : Talk goes start now left left' taken mid kept answered)
       → Ends kept talk.messages refusal served.end → HasEnded served.end left' is_idle
       → Appends mid taken' (refusal_text refusal)
@@ -310,21 +310,21 @@ module _ {M : Type 0} (goes : M → Request → Answer → M → Type 0) where
       failed
 
   -- what was asked, by the parts of a message
-  asked_at : (buf : List ℕ) (parts : Parts) (message : Message) (what : Asked)
+  asked_at : (buf : List ℕ) (parts : Parts) (message : Message) (what : Inquiry)
       → IsMessageAt buf parts message
       → what ≡ asked_of (span_bytes buf parts.method) (span_bytes buf parts.target)
       (slice_range buf parts.body parts.end)
       → what ≡ asked_of message.head.method message.head.target message.body
   asked_at buf parts message what at is = rw (at.method, at.target, at.body) at is
 
-  responds_at : (buf : List ℕ) (parts : Parts) (message : Message) (what : Asked) (now later : M)
+  responds_at : (buf : List ℕ) (parts : Parts) (message : Message) (what : Inquiry) (now later : M)
       (said : Said) → IsMessageAt buf parts message
       → what ≡ asked_of (span_bytes buf parts.method) (span_bytes buf parts.target)
       (slice_range buf parts.body parts.end)
       → Responds goes now what said later
       → Responds goes now (asked_of message.head.method message.head.target message.body) said later
   responds_at buf parts message what now later said at is responds =
-      let P : Asked → Type 0 = λ a. Responds goes now a said later in
+      let P : Inquiry → Type 0 = λ a. Responds goes now a said later in
       subst P (asked_at buf parts message what at is) responds
 
   -- whether the connection closes after the answer, by the parts of the message
@@ -335,7 +335,7 @@ module _ {M : Type 0} (goes : M → Request → Answer → M → Type 0) where
       ∙ ap (λ (b : Bool). b || (before == 99)) at.closes
 
   -- there is no memory for the answer
-  pub lost_answer : (before : ℕ) (buf : List ℕ) (parts : Parts) (message : Message) (what : Asked)
+  pub lost_answer : (before : ℕ) (buf : List ℕ) (parts : Parts) (message : Message) (what : Inquiry)
       (now later : M) (taken : Option (List ℕ))
       → IsMessageAt buf parts message
       → what ≡ asked_of (span_bytes buf parts.method) (span_bytes buf parts.target)
@@ -359,7 +359,7 @@ module _ {M : Type 0} (goes : M → Request → Answer → M → Type 0) where
   )
 
   -- the answer is written in part
-  pub half_answer : (before : ℕ) (buf : List ℕ) (parts : Parts) (message : Message) (what : Asked)
+  pub half_answer : (before : ℕ) (buf : List ℕ) (parts : Parts) (message : Message) (what : Inquiry)
       (now later : M) (said : Said) (close : Bool) (taken taken' : Option (List ℕ))
       → IsMessageAt buf parts message
       → what ≡ asked_of (span_bytes buf parts.method) (span_bytes buf parts.target)

@@ -13,8 +13,8 @@ use Rattle.ftd_desk.specs.Words.{Handles}
 use Rattle.ftd_desk.specs.declared.desk.Desk.{Desk}
 use Rattle.ftd_http.specs.Messages.{Message}
 use Rattle.ftd_http.specs.Asking.{asked_of}
-use Rattle.ftd_http.specs.declared.ask.Asked.{Asked}
-use Rattle.ftd_http.specs.declared.ask.Asked.TheVariants as asked
+use Rattle.ftd_http.specs.declared.ask.Inquiry.{Inquiry}
+use Rattle.ftd_http.specs.declared.ask.Inquiry.TheVariants as asked
 use Rattle.ftd_server.specs.Responses.{Said}
 use Rattle.ftd_server.specs.Replying.{Responds}
 use Rattle.ftd_server.specs.Serving.{IsAnswer, Answers, none, more, Answered, Broken}
@@ -22,7 +22,7 @@ use Rattle.ftd_server.specs.Serving.{BreaksOff, unasked, in_answer, in_refusal}
 use Rattle.ftd_server.specs.Serving.{ServesMessages, Breaks}
 use Rattle.ftd_server.specs.Tables.{Follows, AnsweredBy, BrokenBy}
 use Rattle.ftd_server.specs.declared.connection.Cause.{Cause}
-use Rattle.ftd_server.specs.declared.connection.Served.{Served}
+use Rattle.ftd_server.specs.declared.connection.ServedConnection.{ServedConnection}
 use Rattle.ftd_server.specs.declared.connection.ServeFault.{ServeFault}
 
 -- a desk that stays as it was
@@ -79,7 +79,7 @@ module _ {S : Type 0} (g : store.Ghosts S) where
   held_same : (now later : Desk S) → later ≡ now → held g later ≡ held g now
   held_same now later same = rw same refl
 
-  responds : (now later : Desk S) (what : Asked) (said : Said) → Responds goes now what said later
+  responds : (now later : Desk S) (what : Inquiry) (said : Said) → Responds goes now what said later
       → Follows (held g now) (held g later) (λ s end. Responds Goes s what said end)
   responds now later asked.NoRoute said (same, is) = same_desk _ _ _ (held_same now later same)
       (λ s. (refl, is))
@@ -147,7 +147,7 @@ module _ {S : Type 0} (g : store.Ghosts S) where
       (λ s m end one other. (m, one, other))
 
   module _ (start later : Desk S) (left left' taken taken' : Option (List ℕ)) where
-    pub served_by : (is_idle : Bool) (r : Result Served ServeFault)
+    pub served_by : (is_idle : Bool) (r : Result ServedConnection ServeFault)
         → IfOk r (ServesMessages (Answered goes start later) left left' is_idle taken taken')
         → IfOk r (ServesMessages (AnsweredBy (held g start) (held g later)) left left' is_idle taken
         taken')
@@ -167,7 +167,7 @@ module _ {S : Type 0} (g : store.Ghosts S) where
     }
     served_by is_idle (Err fault) h = h
 
-    pub broken_by : (source_failed target_failed : Bool) (r : Result Served ServeFault)
+    pub broken_by : (source_failed target_failed : Bool) (r : Result ServedConnection ServeFault)
         → IfErr r (Breaks (Broken goes start later) left left' source_failed taken taken'
         target_failed)
         → IfErr r (Breaks (BrokenBy (held g start) (held g later)) left left' source_failed taken

@@ -5,18 +5,18 @@ use Rattle.ftd_answers.specs.Fields.{Told, members_of, number_field, object_of, 
 use Rattle.ftd_days.specs.Text.{quarter_text}
 use Rattle.ftd_http.specs.declared.status.Status.{Status}
 use Rattle.ftd_http.specs.declared.status.Status.TheVariants as status
-use Rattle.ftd_machine.specs.Refusals.{is_failure, name_text, named_by, number_of}
-use Rattle.ftd_machine.specs.declared.replies.Named.{Named}
-use Rattle.ftd_machine.specs.declared.replies.Named.TheVariants as named
+use Rattle.ftd_machine.specs.Refusals.{is_failure, name_text, subject_of, number_of}
+use Rattle.ftd_machine.specs.declared.replies.Subject.{Subject}
+use Rattle.ftd_machine.specs.declared.replies.Subject.TheVariants as subject
 use Rattle.ftd_machine.specs.declared.replies.Refusal.{Refusal}
 use Rattle.ftd_server.specs.Responses.{Said, json}
 
 -- the year or the quarter that a refusal names, or how many corrections there are
-abbrev pub named_fields : Named → List Told
-named_fields named.Nothing = []
-named_fields (named.Year year) = text_field (codes "detail") (decimal year) ∷ []
-named_fields (named.Quarter quarter) = text_field (codes "detail") (quarter_text quarter) ∷ []
-named_fields (named.Number count) = number_field (codes "count") count ∷ []
+abbrev pub subject_fields : Subject → List Told
+subject_fields subject.Nothing = []
+subject_fields (subject.Year year) = text_field (codes "detail") (decimal year) ∷ []
+subject_fields (subject.Quarter quarter) = text_field (codes "detail") (quarter_text quarter) ∷ []
+subject_fields (subject.Number count) = number_field (codes "count") count ∷ []
 
 -- a name and a number
 abbrev pub name_fields : List ℕ → ℕ → List Told
@@ -25,7 +25,7 @@ name_fields name number =
 
 -- the fields of a refusal
 abbrev pub refusal_fields : Refusal → List Told
-refusal_fields r = named_fields (named_by r) ++ name_fields (name_text r) (number_of r)
+refusal_fields r = subject_fields (subject_of r) ++ name_fields (name_text r) (number_of r)
 
 -- its status: want of memory and a store that failed are faults of the server
 abbrev pub refusal_status : Refusal → Status

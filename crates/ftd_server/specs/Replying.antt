@@ -13,8 +13,8 @@ use Rattle.ftd_answers.specs.declared.formats.Format.{Format}
 use Rattle.ftd_server.specs.Responses.{Said, bare, formatted, json}
 use Rattle.ftd_server.specs.Responses.{other_method}
 use Rattle.ftd_server.specs.Refusals.{refused}
-use Rattle.ftd_http.specs.declared.ask.Asked.{Asked}
-use Rattle.ftd_http.specs.declared.ask.Asked.TheVariants as asked
+use Rattle.ftd_http.specs.declared.ask.Inquiry.{Inquiry}
+use Rattle.ftd_http.specs.declared.ask.Inquiry.TheVariants as asked
 
 -- the response with the name of a reply alone
 abbrev pub named : List ℕ → Said
@@ -44,7 +44,7 @@ answered format (Err refusal) = refused refusal
 -- The response to what is asked of a machine: where nothing is asked of it, it stays as it is.
 -- `goes` has the machine, a request, its answer, and the machine after it.
 module _ {M : Type 0} (goes : M → Request → Answer → M → Type 0) where
-  abbrev pub Responds : M → Asked → Said → M → Type 0
+  abbrev pub Responds : M → Inquiry → Said → M → Type 0
   Responds now asked.NoRoute said later = (later ≡ now) × (said ≡ bare status.NotFound)
   Responds now (asked.OtherMethod allow) said later = (later ≡ now) × (said ≡ other_method allow)
   Responds now asked.BadForm said later = (later ≡ now) × (said ≡ bare status.BadRequest)

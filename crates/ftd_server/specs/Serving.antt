@@ -14,7 +14,7 @@ use Rattle.ftd_server.specs.declared.connection.End.{End}
 use Rattle.ftd_server.specs.declared.connection.End.TheVariants as end
 use Rattle.ftd_server.specs.declared.connection.Cause.{Cause}
 use Rattle.ftd_server.specs.declared.connection.Cause.TheVariants as why
-use Rattle.ftd_server.specs.declared.connection.Served.{Served}
+use Rattle.ftd_server.specs.declared.connection.ServedConnection.{ServedConnection}
 use Rattle.ftd_server.specs.declared.connection.ServeFault.{ServeFault}
 
 -- fewer than 100 messages, after none of which the connection closes
@@ -113,7 +113,7 @@ HasFailed why.Memory source_failed target_failed = Unit {0}
 -- their answers, which came about so.
 pub record ServesMessages (answered : List Message → List ℕ → Type 0)
     (left left' : Option (List ℕ)) (idle : Bool) (taken taken' : Option (List ℕ))
-    (served : Served) : Type 0 where
+    (served : ServedConnection) : Type 0 where
   pub read : List ℕ
   pub messages : List Message
   pub rest : List ℕ
@@ -165,7 +165,7 @@ module _ {M : Type 0} (goes : M → Request → Answer → M → Type 0) where
   module _ (now later : M) (left left' : Option (List ℕ)) (idle source_failed : Bool)
       (taken taken' : Option (List ℕ)) (target_failed : Bool)
       (kept kept' : List ℕ) (answered : ℕ) where
-    abbrev pub Proceeds : Result (Option Served) ServeFault → Type 0
+    abbrev pub Proceeds : Result (Option ServedConnection) ServeFault → Type 0
     Proceeds (Ok None) =
         (answered < 99) × ((start : M) (first said : Option (List ℕ))
         → Talk start now first left said taken kept answered

@@ -17,7 +17,7 @@ pub fn end<C: Clock>(clock: &C, stream: &TcpStream) {
     let timer = Timer::new(clock, Duration::from_secs(1));
     let mut dropped = [0; 4096];
     for _ in 0..READS {
-        let left = timer.left();
+        let left = timer.time_left();
         if left.is_zero() || stream.set_read_timeout(Some(left)).is_err() {
             return;
         }

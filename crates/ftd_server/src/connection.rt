@@ -38,7 +38,7 @@ pub enum End {
 
 /// A connection that was served.
 #[derive(Clone, Copy, Debug, PartialEq, Eq)]
-pub struct Served {
+pub struct ServedConnection {
     /// How many messages were answered, a refused one too.
     pub answered: u32,
     /// How the connection ended.
@@ -76,7 +76,7 @@ pub fn serve_machine<By, M: Machine<By>, R: Peer, W: Target>(
     machine: &mut M,
     source: &mut R,
     target: &mut W,
-) -> Result<Served, ServeFault>
+) -> Result<ServedConnection, ServeFault>
     ensures ok { IfOk result (ServesMessages (Answered M.goes machine.old machine.new)
         (R.left source.old) (R.left source.new) (R.idle source.new)
         (W.taken target.old) (W.taken target.new)) }
@@ -108,7 +108,7 @@ fn serve_next<By, M: Machine<By>, R: Peer, W: Target>(
     target: &mut W,
     buf: &mut Vec<u8>,
     answered: u32,
-) -> Result<Option<Served>, ServeFault>
+) -> Result<Option<ServedConnection>, ServeFault>
     requires routes { router.now ≡ all_routes }
     requires few { answered < 100 }
     ensures { Proceeds M.goes machine.old machine.new
@@ -146,10 +146,10 @@ fn serve_next<By, M: Machine<By>, R: Peer, W: Target>(
 }
 
 /// A connection that was served.
-fn ended(answered: u32, end: End) -> Served
+fn ended(answered: u32, end: End) -> ServedConnection
     ensures { result ≡ record { answered = answered; end = end } }
 {
-    Served { answered, end }
+    ServedConnection { answered, end }
 }
 
 /// A connection on which serving failed.

@@ -5,7 +5,7 @@ ghost use Rattle.ftd_machine.specs.Questions.{AreBounded};
 ghost use Rattle.ftd_answers.specs.Facts.{facts_text};
 ghost use Rattle.ftd_server.specs.Responses.{formatted, said_of};
 
-use crate::response::{Response, formatted};
+use crate::response::{Response, report_response};
 use ftd_answers::{Format, write_facts};
 use ftd_machine::Facts;
 use ftd_ports::Port;
@@ -19,7 +19,7 @@ pub fn facts_said(alloc: Global, format: Format, facts: &Facts) -> Result<Respon
 {
     let mut port = Port::new(Vec::new(alloc));
     match write_facts(format, facts, &mut port) {
-        Ok(()) => Ok(formatted(format, port.into_inner())),
+        Ok(()) => Ok(report_response(format, port.into_inner())),
         Err(_) => Err(AllocError),
     }
 }

@@ -22,12 +22,12 @@ mod wire;
 
 pub use crate::announcing::announce;
 pub use crate::closing::end;
-pub use crate::connection::{Cause, End, ServeFault, Served, serve_machine};
+pub use crate::connection::{Cause, End, ServeFault, ServedConnection, serve_machine};
 pub use crate::lines::tell_outcome;
 pub use crate::machine::Machine;
 pub use crate::office::serve;
 pub use crate::outcome::{Outcome, Turn};
 pub use crate::serving::{Limits, serve_on};
 pub use crate::stop::Stop;
-pub use crate::timed::{Timed, Timer};
+pub use crate::timed::{TimedStream, Timer};
 pub use crate::wire::Wire;

@@ -5,7 +5,7 @@ ghost use Rattle.ftd_desk.specs.Desks.{held};
 ghost use Rattle.ftd_server.specs.Serving.{ServesMessages, Breaks};
 ghost use Rattle.ftd_server.specs.Tables.{AnsweredBy, BrokenBy};
 
-use crate::{Machine, ServeFault, Served, serve_machine};
+use crate::{Machine, ServeFault, ServedConnection, serve_machine};
 use ftd_desk::Desk;
 use ftd_http::Peer;
 use ftd_machine::{Answer, Request};
@@ -37,7 +37,7 @@ pub fn serve<S: Alter, R: Peer, W: Target>(
     desk: &mut Desk<S>,
     source: &mut R,
     target: &mut W,
-) -> Result<Served, ServeFault>
+) -> Result<ServedConnection, ServeFault>
     ensures ok { IfOk result
         (ServesMessages (AnsweredBy (held S.Store desk.old) (held S.Store desk.new))
         (R.left source.old) (R.left source.new) (R.idle source.new)

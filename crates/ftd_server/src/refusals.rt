@@ -10,12 +10,12 @@ use crate::response::{Response, json, object_text};
 use ftd_answers::Value;
 use ftd_days::Quarter;
 use ftd_http::Status;
-use ftd_machine::{Named, Refusal};
+use ftd_machine::{Refusal, Subject};
 use itoa::Buffer;
 use std::alloc::{AllocError, Global};
 
 /// The response to a refusal.
-pub fn refused(alloc: Global, refusal: &Refusal) -> Result<Response, AllocError>
+pub fn refusal_response(alloc: Global, refusal: &Refusal) -> Result<Response, AllocError>
     ensures { IfOk result (λ response. said_of response ≡ refused refusal.now) }
 {
     let text = refusal_text(alloc, refusal)?;
@@ -30,20 +30,21 @@ fn refusal_text(alloc: Global, refusal: &Refusal) -> Result<Vec<u8>, AllocError>
 {
     let name = refusal.name();
     let number = u32::from(refusal.number());
-    match refusal.named() {
-        Named::Nothing => name_text(alloc, name, number),
-        Named::Year(year) => {
+    match refusal.subject() {
+        Subject::Nothing => name_text(alloc, name, number),
+        Subject::Year(year) => {
             let mut digits = Buffer::new();
             year_text(alloc, digits.format(year), name, number)
         }
-        Named::Quarter(quarter) => quarter_text(alloc, quarter, name, number),
-        Named::Number(count) => count_text(alloc, count, name, number),
+        Subject::Quarter(quarter) => quarter_text(alloc, quarter, name, number),
+        Subject::Number(count) => count_text(alloc, count, name, number),
     }
 }
 
 /// The name and the number of a refusal as JSON.
 fn name_text(alloc: Global, name: &str, number: u32) -> Result<Vec<u8>, AllocError>
-    ensures { IfOk result (λ text. text.items ≡ object_of (members_of (name_fields name.now number))) }
+    ensures { IfOk result (λ text. text.items
+        ≡ object_of (members_of (name_fields name.now number))) }
 {
     object_text(
         alloc,

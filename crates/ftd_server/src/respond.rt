@@ -7,10 +7,10 @@ ghost use Rattle.ftd_server.specs.Responses.{Said, said_of};
 
 use crate::facts::facts_said;
 use crate::machine::Machine;
-use crate::refusals::refused;
+use crate::refusals::refusal_response;
 use crate::response::{Response, bare, json, object_text, other_method};
 use ftd_answers::{Format, Value};
-use ftd_http::{Asked, Status};
+use ftd_http::{Inquiry, Status};
 use ftd_machine::{Answer, Difference, Reply, is_bounded};
 use std::alloc::{AllocError, Global};
 
@@ -18,7 +18,7 @@ use std::alloc::{AllocError, Global};
 pub fn respond<By, M: Machine<By>>(
     alloc: Global,
     machine: &mut M,
-    asked: &Asked,
+    asked: &Inquiry,
 ) -> Result<Response, AllocError>
     ensures ok { IfOk result
         (λ response. Responds M.goes machine.old asked.now (said_of response) machine.new) }
@@ -26,10 +26,10 @@ pub fn respond<By, M: Machine<By>>(
         ⊎ ((said : Said) × Responds M.goes machine.old asked.now said machine.new)) }
 {
     match asked {
-        Asked::NoRoute => Ok(bare(alloc, Status::NotFound)),
-        Asked::OtherMethod(allow) => Ok(other_method(alloc, *allow)),
-        Asked::BadForm => Ok(bare(alloc, Status::BadRequest)),
-        Asked::Asks { format, request } => {
+        Inquiry::NoRoute => Ok(bare(alloc, Status::NotFound)),
+        Inquiry::OtherMethod(allow) => Ok(other_method(alloc, *allow)),
+        Inquiry::BadForm => Ok(bare(alloc, Status::BadRequest)),
+        Inquiry::Asks { format, request } => {
             let answer = machine.answer(request);
             answered(alloc, *format, &answer)
         }
@@ -42,7 +42,7 @@ fn answered(alloc: Global, format: Format, answer: &Answer) -> Result<Response, 
 {
     match answer {
         Ok(reply) => replied(alloc, format, reply),
-        Err(refusal) => refused(alloc, refusal),
+        Err(refusal) => refusal_response(alloc, refusal),
     }
 }
 

@@ -101,7 +101,7 @@ fn content_of(format: Format) -> Content
 }
 
 /// A response with the text of a report in a format.
-pub fn formatted(format: Format, body: Vec<u8>) -> Response
+pub fn report_response(format: Format, body: Vec<u8>) -> Response
     ensures { said_of result ≡ formatted format body.items }
 {
     Response {

@@ -7,7 +7,9 @@ ghost use Rattle.ftd_server.specs.Listening.{HasTaken, IsTurn, outcome_of};
 ghost use Rattle.ftd_server.specs.Turns.{IsServed, asks, is_lost, serves};
 
 use crate::office::serve;
-use crate::{Cause, End, Outcome, Served, Timed, Timer, Turn, Wire, end, tell_outcome};
+use crate::{
+    Cause, End, Outcome, ServedConnection, TimedStream, Timer, Turn, Wire, end, tell_outcome,
+};
 use ftd_days::Day;
 use ftd_desk::Desk;
 use ftd_machine::{AccountName, Answer, Question, Refusal, Request};
@@ -57,7 +59,7 @@ fn serve_one<S: Alter, R: Clock + AllocGlobal>(
         seconds(limits.idle),
         seconds(limits.silence),
     );
-    let mut target = Port::new(Timed::new(&timer, stream));
+    let mut target = Port::new(TimedStream::new(&timer, stream));
     match serve(rt.alloc(), desk, &mut source, &mut target) {
         Ok(served) => {
             if is_ended_here(served) {
@@ -70,7 +72,7 @@ fn serve_one<S: Alter, R: Clock + AllocGlobal>(
 }
 
 /// Whether the server ends a connection after an answer, and the peer may still send.
-fn is_ended_here(served: Served) -> bool {
+fn is_ended_here(served: ServedConnection) -> bool {
     matches!(served.end, End::Asked | End::Limit | End::BadMessage)
 }
 

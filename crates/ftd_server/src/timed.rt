@@ -23,7 +23,7 @@ impl<'a, C: Clock> Timer<'a, C> {
     }
 
     /// How much of the time is left: none where it is over, or the clock fails.
-    pub fn left(&self) -> Duration {
+    pub fn time_left(&self) -> Duration {
         let Some(begun) = self.begun else {
             return Duration::ZERO;
         };
@@ -35,7 +35,7 @@ impl<'a, C: Clock> Timer<'a, C> {
 
     /// Fails once the time is over.
     fn check(&self) -> Result<()> {
-        if self.left().is_zero() {
+        if self.time_left().is_zero() {
             return Err(Error::from(ErrorKind::TimedOut));
         }
         Ok(())
@@ -45,19 +45,19 @@ impl<'a, C: Clock> Timer<'a, C> {
 /// A stream that is read and written until a time is over: later reads and writes fail, also those
 /// of a peer that sends or takes a byte now and then. Where the clock fails, they do.
 #[derive(Drop)]
-pub struct Timed<'a, C> {
+pub struct TimedStream<'a, C> {
     timer: &'a Timer<'a, C>,
     stream: &'a TcpStream,
 }
 
-impl<'a, C: Clock> Timed<'a, C> {
+impl<'a, C: Clock> TimedStream<'a, C> {
     /// The stream, until the time is over.
-    pub fn new(timer: &'a Timer<'a, C>, stream: &'a TcpStream) -> Timed<'a, C> {
-        Timed { timer, stream }
+    pub fn new(timer: &'a Timer<'a, C>, stream: &'a TcpStream) -> TimedStream<'a, C> {
+        TimedStream { timer, stream }
     }
 }
 
-impl<'a, C: Clock> Read for Timed<'a, C> {
+impl<'a, C: Clock> Read for TimedStream<'a, C> {
     fn read(&mut self, buf: &mut [u8]) -> Result<usize> {
         self.timer.check()?;
         let mut stream = self.stream;
@@ -65,7 +65,7 @@ impl<'a, C: Clock> Read for Timed<'a, C> {
     }
 }
 
-impl<'a, C: Clock> Write for Timed<'a, C> {
+impl<'a, C: Clock> Write for TimedStream<'a, C> {
     fn write(&mut self, bytes: &[u8]) -> Result<usize> {
         self.timer.check()?;
         let mut stream = self.stream;

@@ -1,6 +1,6 @@
 //! The stream of a connection as a source.
 
-use crate::timed::{Timed, Timer};
+use crate::timed::{TimedStream, Timer};
 use ftd_http::Peer;
 use ftd_ports::{Port, PortFault, Source};
 use std::io::ErrorKind;
@@ -11,7 +11,7 @@ use std::time::{Clock, Duration};
 /// too long, and it fails once its time is over.
 #[derive(Drop)]
 pub struct Wire<'a, C> {
-    port: Port<Timed<'a, C>>,
+    port: Port<TimedStream<'a, C>>,
     timer: &'a Timer<'a, C>,
     stream: &'a TcpStream,
     idle: Duration,
@@ -29,7 +29,7 @@ impl<'a, C: Clock> Wire<'a, C> {
         silence: Duration,
     ) -> Wire<'a, C> {
         Wire {
-            port: Port::new(Timed::new(timer, stream)),
+            port: Port::new(TimedStream::new(timer, stream)),
             timer,
             stream,
             idle,
@@ -72,7 +72,7 @@ impl<'a, C: Clock> Peer for Wire<'a, C> {
     ghost idle = { was_idle };
 
     fn waits(&mut self) -> bool {
-        let left = self.timer.left();
+        let left = self.timer.time_left();
         // A peer that is waited for until the time is over is not idle: its next read fails.
         self.was_idle = self.idle < left && self.is_silent(self.idle);
         !self.was_idle

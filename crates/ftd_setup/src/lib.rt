@@ -8,4 +8,4 @@ mod opening;
 mod steps;
 mod versions;
 
-pub use crate::opening::{NotOpened, OpenFault, open};
+pub use crate::opening::{OpenFault, UnopenedDatabase, open};

@@ -48,7 +48,7 @@ impl From<StoreFault> for OpenFault {
 
 /// A database that was not opened, with the rows that it had.
 #[derive(Drop)]
-pub struct NotOpened<S: Alter> {
+pub struct UnopenedDatabase<S: Alter> {
     /// The database.
     pub connection: Connection<S>,
     /// Why it was not opened.
@@ -201,7 +201,7 @@ impl<S: Alter> Found<S> {
 /// is `Newer`. All else is `NotOurs`. `Store` where memory is refused, where the database fails,
 /// and where it is in a transaction. A fault gives the connection back with the same rows. Tables
 /// of other names are left alone.
-pub fn open<S: Alter>(conn: Connection<S>) -> Result<Connection<S>, NotOpened<S>>
+pub fn open<S: Alter>(conn: Connection<S>) -> Result<Connection<S>, UnopenedDatabase<S>>
     ensures ended { Ended S.Store result (Opening (state S.Store conn)) }
     ensures untouched { has_any all_names (state S.Store conn).now.schema ≡ true
         → is_tagged (state S.Store conn).now.schema ≡ false
@@ -215,7 +215,7 @@ pub fn open<S: Alter>(conn: Connection<S>) -> Result<Connection<S>, NotOpened<S>
         }
         Err(fault) => {
             let Found { conn: connection } = found;
-            Err(NotOpened { connection, fault })
+            Err(UnopenedDatabase { connection, fault })
         }
     }
 }

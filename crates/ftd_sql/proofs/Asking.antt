@@ -18,9 +18,8 @@ use Rattle.ftd_sql.specs.declared.texts.TheConstants.{COUNT_RUNS, LIST_DUE_BETWE
 use Rattle.ftd_sql.specs.declared.texts.TheConstants.{LIST_ENROLLED, LIST_FORMS, LIST_REPORTED}
 use Rattle.ftd_sql.specs.declared.texts.TheConstants.{LIST_REPORTED_YEARS, LIST_KEPT_RUNS}
 use Rattle.ftd_sql.specs.declared.texts.TheConstants.{LIST_KEPT_PAYMENTS, COUNT_PAYMENTS}
-use Rattle.ftd_sql.specs.declared.texts.TheConstants.{LIST_CORRECTIONS, LIST_CORRECTED}
+use Rattle.ftd_sql.specs.declared.texts.TheConstants.{LIST_CORRECTIONS}
 use Rattle.ftd_sql.specs.declared.texts.TheConstants.{LIST_YEAR_CORRECTIONS}
-use Rattle.ftd_sql.specs.declared.texts.TheConstants.{LIST_CORRECTED_YEARS}
 use Rattle.ftd_sql.specs.declared.texts.TheConstants.{LIST_ACCOUNT_CORRECTIONS}
 use Rattle.ftd_sql.specs.declared.texts.TheConstants.{LIST_CHANGED_HOLIDAYS}
 use Rattle.ftd_sql.proofs.Shapes.{place, test_on, Value, Zero, Is, IsBelow, IsAtMost, IsAtLeast}
@@ -715,69 +714,12 @@ lists_corrections = record {
   is_query = λ tree. refl;
 }
 
-pub lists_corrected : Asks CorrectedQuarters LIST_CORRECTED.now
-    (place (codes "cal_year") 2 ∷ place (codes "quarter") 3 ∷ place (codes "number") 4 ∷ place
-    (codes "cents") 5 ∷ [])
-    (test_on (codes "account") 1 Is (Value 1) ∷ [])
-    (place (codes "cal_year") 2 ∷ place (codes "quarter") 3 ∷ place (codes "number") 4 ∷ [])
-unfolding everything
-lists_corrected = record {
-  reads = record { read = _; is = refl; said = refl; untimed = refl; whole = refl };
-  opens = record { whole = refl; first = refl };
-  resolves = λ tree. record {
-    filters = _;
-    grouped = false;
-    keys = _;
-    after_columns = _;
-    after_test = _;
-    after_order = _;
-    known_columns = refl;
-    known_test = refl;
-    known_order = refl;
-    columns_are = refl;
-    filters_are = refl;
-    is_grouped = refl;
-    keys_are = refl;
-    draft_is = λ at. refl;
-  };
-  accepted = λ tree. (refl, refl);
-  is_query = λ tree. refl;
-}
-
 pub lists_year_corrections : Asks CorrectedYears LIST_YEAR_CORRECTIONS.now
     (place (codes "number") 3 ∷ place (codes "cents") 4 ∷ [])
     (test_on (codes "account") 1 Is (Value 1) ∷ test_on (codes "cal_year") 2 Is (Value 2) ∷ [])
     (place (codes "number") 3 ∷ [])
 unfolding everything
 lists_year_corrections = record {
-  reads = record { read = _; is = refl; said = refl; untimed = refl; whole = refl };
-  opens = record { whole = refl; first = refl };
-  resolves = λ tree. record {
-    filters = _;
-    grouped = false;
-    keys = _;
-    after_columns = _;
-    after_test = _;
-    after_order = _;
-    known_columns = refl;
-    known_test = refl;
-    known_order = refl;
-    columns_are = refl;
-    filters_are = refl;
-    is_grouped = refl;
-    keys_are = refl;
-    draft_is = λ at. refl;
-  };
-  accepted = λ tree. (refl, refl);
-  is_query = λ tree. refl;
-}
-
-pub lists_corrected_years : Asks CorrectedYears LIST_CORRECTED_YEARS.now
-    (place (codes "cal_year") 2 ∷ place (codes "number") 3 ∷ place (codes "cents") 4 ∷ [])
-    (test_on (codes "account") 1 Is (Value 1) ∷ [])
-    (place (codes "cal_year") 2 ∷ place (codes "number") 3 ∷ [])
-unfolding everything
-lists_corrected_years = record {
   reads = record { read = _; is = refl; said = refl; untimed = refl; whole = refl };
   opens = record { whole = refl; first = refl };
   resolves = λ tree. record {

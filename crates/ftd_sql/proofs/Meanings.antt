@@ -45,8 +45,7 @@ use Rattle.ftd_sql.specs.declared.texts.TheConstants.{LIST_KEPT_PAYMENTS, COUNT_
 use Rattle.ftd_sql.specs.declared.texts.TheConstants.{SET_VERSION, SET_YEAR, VOID_RUN}
 use Rattle.ftd_sql.specs.declared.texts.TheConstants.{VOID_PAYMENT, SET_OBLIGATION, SET_DUE}
 use Rattle.ftd_sql.specs.declared.texts.TheConstants.{REMOVE_OBLIGATIONS, LIST_CORRECTIONS}
-use Rattle.ftd_sql.specs.declared.texts.TheConstants.{LIST_CORRECTED, LIST_YEAR_CORRECTIONS}
-use Rattle.ftd_sql.specs.declared.texts.TheConstants.{LIST_CORRECTED_YEARS}
+use Rattle.ftd_sql.specs.declared.texts.TheConstants.{LIST_YEAR_CORRECTIONS}
 use Rattle.ftd_sql.specs.declared.texts.TheConstants.{LIST_ACCOUNT_CORRECTIONS}
 use Rattle.ftd_sql.specs.declared.texts.TheConstants.{LIST_CHANGED_HOLIDAYS}
 use Rattle.ftd_sql.specs.Given.{name_given, number_given, key_given, pair_given, days_given}
@@ -79,17 +78,17 @@ use Rattle.ftd_sql.specs.Answers.{year_total_shown, kept_run_shown, kept_payment
 use Rattle.ftd_sql.specs.Tests.{is_any_account, is_any_form, is_reported_of}
 use Rattle.ftd_sql.specs.Tests.{is_reported_year_of, is_run_between, is_payment_between}
 use Rattle.ftd_sql.specs.Orders.{NamesRise, FormsRise, QuartersRise, ReportedYearsRise}
-use Rattle.ftd_sql.proofs.Asking.{lists_corrections, lists_corrected, lists_year_corrections}
-use Rattle.ftd_sql.proofs.Asking.{lists_corrected_years, lists_account_corrections}
+use Rattle.ftd_sql.proofs.Asking.{lists_corrections, lists_year_corrections}
+use Rattle.ftd_sql.proofs.Asking.{lists_account_corrections}
 use Rattle.ftd_sql.proofs.Asking.{lists_changed_holidays}
-use Rattle.ftd_sql.specs.Answers.{correction_shown, quarter_correction_shown}
-use Rattle.ftd_sql.specs.Answers.{correction_of_year_shown, year_correction_shown}
+use Rattle.ftd_sql.specs.Answers.{correction_shown}
+use Rattle.ftd_sql.specs.Answers.{correction_of_year_shown}
 use Rattle.ftd_sql.specs.Answers.{account_correction_shown, holiday_change_shown}
-use Rattle.ftd_sql.specs.Tests.{is_correction, is_year_correction, is_correction_of}
-use Rattle.ftd_sql.specs.Tests.{is_year_correction_of, is_account_correction_of}
+use Rattle.ftd_sql.specs.Tests.{is_correction, is_year_correction}
+use Rattle.ftd_sql.specs.Tests.{is_account_correction_of}
 use Rattle.ftd_sql.specs.Tests.{is_holiday_change_of}
-use Rattle.ftd_sql.specs.Orders.{CorrectionsRise, QuarterCorrectionsRise, YearCorrectionsRise}
-use Rattle.ftd_sql.specs.Orders.{YearsCorrectionsRise, AccountCorrectionsRise}
+use Rattle.ftd_sql.specs.Orders.{CorrectionsRise, YearCorrectionsRise}
+use Rattle.ftd_sql.specs.Orders.{AccountCorrectionsRise}
 use Rattle.ftd_sql.specs.Orders.{HolidayChangesRise}
 use Rattle.ftd_sql.proofs.Changing.{sets_version, sets_year, voids_run, voids_payment}
 use Rattle.ftd_sql.proofs.Changing.{sets_obligation, sets_due, removes_obligations}
@@ -379,17 +378,6 @@ corrections_in_order account year quarter old new rows t stands h =
     (stands CorrectedQuarters) h
     CorrectionsRise (λ tree a b i j h. one_rises a.number b.number h)
 
-pub corrected_in_order : (account : List ℕ) → ListsTested CorrectedQuarters LIST_CORRECTED.now
-    (name_given account) (is_correction_of account) quarter_correction_shown QuarterCorrectionsRise
-unfolding everything
-corrected_in_order account old new rows t stands h =
-    lists CorrectedQuarters LIST_CORRECTED.now _ _ _ lists_corrected (name_given account)
-    (is_correction_of account) quarter_correction_shown
-    (λ p. one_passes _ _ (text_is p.1.account account)) (λ p. refl) old new rows
-    (t CorrectedQuarters) (stands CorrectedQuarters) h
-    QuarterCorrectionsRise
-    (λ tree a b i j h. three_rise a.year b.year a.quarter b.quarter a.number b.number h)
-
 pub year_corrections_in_order : (account : List ℕ) (year : ℤ)
     → ListsTested CorrectedYears LIST_YEAR_CORRECTIONS.now (key_given account year)
     (is_year_correction account year) correction_of_year_shown YearCorrectionsRise
@@ -400,17 +388,6 @@ year_corrections_in_order account year old new rows t stands h =
     (λ p. two_pass _ _ _ _ (text_is p.1.account account) (whole_is p.1.year year)) (λ p. refl)
     old new rows (t CorrectedYears) (stands CorrectedYears) h
     YearCorrectionsRise (λ tree a b i j h. one_rises a.number b.number h)
-
-pub corrected_years_in_order : (account : List ℕ) → ListsTested CorrectedYears
-    LIST_CORRECTED_YEARS.now (name_given account) (is_year_correction_of account)
-    year_correction_shown YearsCorrectionsRise
-unfolding everything
-corrected_years_in_order account old new rows t stands h =
-    lists CorrectedYears LIST_CORRECTED_YEARS.now _ _ _ lists_corrected_years (name_given account)
-    (is_year_correction_of account) year_correction_shown
-    (λ p. one_passes _ _ (text_is p.1.account account)) (λ p. refl) old new rows
-    (t CorrectedYears) (stands CorrectedYears) h
-    YearsCorrectionsRise (λ tree a b i j h. two_rise a.year b.year a.number b.number h)
 
 pub account_corrections_in_order : (account : List ℕ) → ListsTested CorrectedAccounts
     LIST_ACCOUNT_CORRECTIONS.now (name_given account) (is_account_correction_of account)

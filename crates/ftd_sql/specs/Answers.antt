@@ -43,14 +43,8 @@ year_total_shown r = Int r.year ∷ Int r.cents ∷ []
 abbrev pub correction_shown : CorrectedQuarterRow → Row
 correction_shown c = Int c.number ∷ Int c.cents ∷ []
 
-abbrev pub quarter_correction_shown : CorrectedQuarterRow → Row
-quarter_correction_shown c = Int c.year ∷ Int c.quarter ∷ correction_shown c
-
 abbrev pub correction_of_year_shown : CorrectedYearRow → Row
 correction_of_year_shown c = Int c.number ∷ Int c.cents ∷ []
-
-abbrev pub year_correction_shown : CorrectedYearRow → Row
-year_correction_shown c = Int c.year ∷ correction_of_year_shown c
 
 abbrev pub account_correction_shown : CorrectedAccountRow → Row
 account_correction_shown c = Int c.number ∷ Int c.start ∷ Int c.carried ∷ []

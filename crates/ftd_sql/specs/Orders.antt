@@ -32,17 +32,6 @@ YearCorrectionsRise a b = a.number ≤ℤ b.number
 abbrev pub AccountCorrectionsRise : CorrectedAccountRow → CorrectedAccountRow → Type 0
 AccountCorrectionsRise a b = a.number ≤ℤ b.number
 
--- those of several quarters: by quarter, and by number in one quarter
-abbrev pub QuarterCorrectionsRise : CorrectedQuarterRow → CorrectedQuarterRow → Type 0
-QuarterCorrectionsRise a b =
-    (a.year <ℤ b.year)
-    ⊎ ((a.year ≡ b.year)
-    × ((a.quarter <ℤ b.quarter) ⊎ ((a.quarter ≡ b.quarter) × (a.number ≤ℤ b.number))))
-
--- those of several years: by year, and by number in one year
-abbrev pub YearsCorrectionsRise : CorrectedYearRow → CorrectedYearRow → Type 0
-YearsCorrectionsRise a b = (a.year <ℤ b.year) ⊎ ((a.year ≡ b.year) × (a.number ≤ℤ b.number))
-
 -- by day, and by number on one day
 abbrev pub HolidayChangesRise : ChangedHolidayRow → ChangedHolidayRow → Type 0
 HolidayChangesRise a b = (a.day <ℤ b.day) ⊎ ((a.day ≡ b.day) × (a.number ≤ℤ b.number))

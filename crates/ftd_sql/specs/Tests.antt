@@ -49,12 +49,6 @@ is_correction account year quarter c =
 abbrev pub is_year_correction : List ℕ → ℤ → CorrectedYearRow → Bool
 is_year_correction account year c = bytes_eq c.account account && int_eq c.year year
 
-abbrev pub is_correction_of : List ℕ → CorrectedQuarterRow → Bool
-is_correction_of account c = bytes_eq c.account account
-
-abbrev pub is_year_correction_of : List ℕ → CorrectedYearRow → Bool
-is_year_correction_of account c = bytes_eq c.account account
-
 -- a correction of the account itself
 abbrev pub is_account_correction_of : List ℕ → CorrectedAccountRow → Bool
 is_account_correction_of account c = bytes_eq c.account account

@@ -55,20 +55,12 @@ pub const ADD_REPORTED_YEAR: &str =
 pub const LIST_CORRECTIONS: &str =
     "SELECT number, cents FROM corrected WHERE account = ?1 AND cal_year = ?2 AND quarter = ?3 \
      ORDER BY number";
-/// The corrections of all the totals that an account reported for quarters, by quarter and number.
-pub const LIST_CORRECTED: &str =
-    "SELECT cal_year, quarter, number, cents FROM corrected WHERE account = ?1 \
-     ORDER BY cal_year, quarter, number";
 /// Adds a correction of the total of a quarter.
 pub const ADD_CORRECTED: &str =
     "INSERT INTO corrected (account, cal_year, quarter, number, cents) VALUES (?1, ?2, ?3, ?4, ?5)";
 /// The corrections of the total that an account reported for a year, by number.
 pub const LIST_YEAR_CORRECTIONS: &str =
     "SELECT number, cents FROM corrected_year WHERE account = ?1 AND cal_year = ?2 ORDER BY number";
-/// The corrections of all the totals that an account reported for years, by year and number.
-pub const LIST_CORRECTED_YEARS: &str =
-    "SELECT cal_year, number, cents FROM corrected_year WHERE account = ?1 \
-     ORDER BY cal_year, number";
 /// Adds a correction of the total of a year.
 pub const ADD_CORRECTED_YEAR: &str =
     "INSERT INTO corrected_year (account, cal_year, number, cents) VALUES (?1, ?2, ?3, ?4)";

@@ -2,8 +2,8 @@
 use Rattle.ftd_sql.specs.TextKinds.{IsReadText}
 use Rattle.ftd_sql.proofs.Asking.{reads_account, lists_enrolled, reads_form, lists_forms}
 use Rattle.ftd_sql.proofs.Asking.{reads_reported, lists_reported, reads_reported_year}
-use Rattle.ftd_sql.proofs.Asking.{lists_reported_years, lists_corrections, lists_corrected}
-use Rattle.ftd_sql.proofs.Asking.{lists_year_corrections, lists_corrected_years}
+use Rattle.ftd_sql.proofs.Asking.{lists_reported_years, lists_corrections}
+use Rattle.ftd_sql.proofs.Asking.{lists_year_corrections}
 use Rattle.ftd_sql.proofs.Asking.{lists_account_corrections, reads_calendar_year}
 use Rattle.ftd_sql.proofs.Asking.{lists_holidays, lists_added_holidays, lists_changed_holidays}
 use Rattle.ftd_sql.proofs.Asking.{lists_years, reads_run, counts_runs, lists_runs}
@@ -25,9 +25,7 @@ is_reading reading.ListReported = asking _ _ _ _ _ lists_reported
 is_reading reading.ReadReportedYear = asking _ _ _ _ _ reads_reported_year
 is_reading reading.ListReportedYears = asking _ _ _ _ _ lists_reported_years
 is_reading reading.ListCorrections = asking _ _ _ _ _ lists_corrections
-is_reading reading.ListCorrected = asking _ _ _ _ _ lists_corrected
 is_reading reading.ListYearCorrections = asking _ _ _ _ _ lists_year_corrections
-is_reading reading.ListCorrectedYears = asking _ _ _ _ _ lists_corrected_years
 is_reading reading.ListAccountCorrections = asking _ _ _ _ _ lists_account_corrections
 is_reading reading.ReadCalendarYear = asking _ _ _ _ _ reads_calendar_year
 is_reading reading.ListHolidays = asking _ _ _ _ _ lists_holidays

@@ -1,17 +1,17 @@
 -- The row that a listed correction, or change of a holiday, stands for.
 use Rattle.std.proofs.Common.{ℕ, pos, List}
 use Rattle.ftd_days.specs.Calendar.{quarter_year, quarter_number}
-use Rattle.ftd_sql.specs.Answers.{correction_shown, quarter_correction_shown}
-use Rattle.ftd_sql.specs.Answers.{correction_of_year_shown, year_correction_shown}
+use Rattle.ftd_sql.specs.Answers.{correction_shown}
+use Rattle.ftd_sql.specs.Answers.{correction_of_year_shown}
 use Rattle.ftd_sql.specs.Answers.{account_correction_shown, holiday_change_shown}
-use Rattle.ftd_sql.specs.Tests.{is_correction, is_correction_of, is_year_correction}
-use Rattle.ftd_sql.specs.Tests.{is_year_correction_of, is_account_correction_of}
+use Rattle.ftd_sql.specs.Tests.{is_correction, is_year_correction}
+use Rattle.ftd_sql.specs.Tests.{is_account_correction_of}
 use Rattle.ftd_sql.specs.Tests.{is_holiday_change_of}
-use Rattle.ftd_store.specs.CorrectionRows.{correction_cells, quarter_correction_cells}
-use Rattle.ftd_store.specs.CorrectionRows.{year_correction_cells, account_correction_cells}
+use Rattle.ftd_store.specs.CorrectionRows.{correction_cells}
+use Rattle.ftd_store.specs.CorrectionRows.{account_correction_cells}
 use Rattle.ftd_store.specs.CorrectionRows.{holiday_change_cells}
-use Rattle.ftd_store.specs.Corrections.{IsCorrection, IsQuarterCorrection, IsCorrectionOfYear}
-use Rattle.ftd_store.specs.Corrections.{IsYearCorrection, IsAccountCorrection, IsHolidayChange}
+use Rattle.ftd_store.specs.Corrections.{IsCorrection, IsCorrectionOfYear}
+use Rattle.ftd_store.specs.Corrections.{IsAccountCorrection, IsHolidayChange}
 use Rattle.ftd_store.proofs.Same.{IsTold, row_told}
 
 pub correction_is : (account : List ℕ) (quarter : ℕ)
@@ -19,18 +19,10 @@ pub correction_is : (account : List ℕ) (quarter : ℕ)
     correction_shown correction_cells (IsCorrection account quarter)
 correction_is account quarter x c passes h = search row_told
 
-pub quarter_correction_is : (account : List ℕ) → IsTold (is_correction_of account)
-    quarter_correction_shown quarter_correction_cells (IsQuarterCorrection account)
-quarter_correction_is account x c passes h = search row_told
-
 pub correction_of_year_is : (account : List ℕ) (year : ℕ)
     → IsTold (is_year_correction account (pos year)) correction_of_year_shown correction_cells
     (IsCorrectionOfYear account year)
 correction_of_year_is account year x c passes h = search row_told
-
-pub year_correction_is : (account : List ℕ) → IsTold (is_year_correction_of account)
-    year_correction_shown year_correction_cells (IsYearCorrection account)
-year_correction_is account x c passes h = search row_told
 
 pub account_correction_is : (account : List ℕ) → IsTold (is_account_correction_of account)
     account_correction_shown account_correction_cells (IsAccountCorrection account)

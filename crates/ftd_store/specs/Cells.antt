@@ -8,6 +8,7 @@ use Rattle.sqlite.specs.Order.{Row}
 use Rattle.sqlite.specs.Values.{or_null}
 use Rattle.sqlite_value.specs.Order.{column}
 use Rattle.ftd_days.specs.declared.cents.Cents.{Cents}
+use Rattle.ftd_days.specs.declared.limits.TheConstants.{LAST_NUMBER}
 use Rattle.ftd_rules.specs.declared.Rule.{Rule}
 use Rattle.ftd_rules.specs.declared.Rule.TheVariants as rule
 use Rattle.ftd_rules.specs.declared.Kind.{Kind}
@@ -48,7 +49,7 @@ form_number form.F943 = pos 1
 
 -- a day from 1900-01-01 to 2199-12-31
 abbrev pub IsDayCell : Value → Type 0
-IsDayCell v = (n : ℤ) × (v ≡ Int n) × IsBetween (neg_ℤ (pos 25_567)) (pos 84_005) n
+IsDayCell v = (n : ℤ) × (v ≡ Int n) × IsBetween (neg_ℤ (pos 25_567)) LAST_NUMBER n
 
 abbrev pub IsFlagCell : Value → Type 0
 IsFlagCell v = (b : Bool) × (v ≡ Int (flag_number b))

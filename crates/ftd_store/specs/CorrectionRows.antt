@@ -3,29 +3,17 @@ use Rattle.std.specs.Prelude.{◌≡◌, pos, List, [], ◌∷◌, length, Optio
 use Rattle.sqlite.specs.declared.types.Value.TheVariants.{Int}
 use Rattle.sqlite.specs.Order.{Row}
 use Rattle.sqlite_value.specs.Order.{column}
-use Rattle.ftd_days.specs.Calendar.{quarter_year, quarter_number}
 use Rattle.ftd_store.specs.Cells.{day_number, flag_number, account_cells, IsDayCell, IsFlagCell}
 use Rattle.ftd_store.specs.Cells.{IsAmountCell, IsCountCell}
-use Rattle.ftd_store.specs.KeptRows.{AreQuarterCells}
 use Rattle.ftd_store.specs.declared.account_cells.Account.{Account}
 use Rattle.ftd_store.specs.declared.correction_cells.AccountCorrection.{AccountCorrection}
 use Rattle.ftd_store.specs.declared.correction_cells.Correction.{Correction}
 use Rattle.ftd_store.specs.declared.correction_cells.HolidayChange.{HolidayChange}
-use Rattle.ftd_store.specs.declared.correction_cells.QuarterCorrection.{QuarterCorrection}
-use Rattle.ftd_store.specs.declared.correction_cells.YearCorrection.{YearCorrection}
 
 -- ---- what rows show
 
 abbrev pub correction_cells : Correction → Row
 correction_cells c = Int (pos c.number) ∷ Int (pos c.cents.0) ∷ []
-
-abbrev pub quarter_correction_cells : QuarterCorrection → Row
-quarter_correction_cells c =
-    Int (pos (quarter_year c.quarter)) ∷ Int (pos (quarter_number c.quarter))
-    ∷ correction_cells c.correction
-
-abbrev pub year_correction_cells : YearCorrection → Row
-year_correction_cells c = Int (pos c.year) ∷ correction_cells c.correction
 
 abbrev pub account_correction_cells : AccountCorrection → Row
 account_correction_cells c = Int (pos c.number) ∷ account_cells c.account
@@ -38,16 +26,6 @@ holiday_change_cells c =
 
 abbrev pub IsCorrectionCells : Row → Type 0
 IsCorrectionCells row = (length row ≡ 2) × IsCountCell (column row 0) × IsAmountCell (column row 1)
-
-abbrev pub IsQuarterCorrectionCells : Row → Type 0
-IsQuarterCorrectionCells row =
-    (length row ≡ 4) × AreQuarterCells (column row 0) (column row 1) × IsCountCell (column row 2)
-    × IsAmountCell (column row 3)
-
-abbrev pub IsYearCorrectionCells : Row → Type 0
-IsYearCorrectionCells row =
-    (length row ≡ 3) × IsCountCell (column row 0) × IsCountCell (column row 1)
-    × IsAmountCell (column row 2)
 
 abbrev pub IsAccountCorrectionCells : Row → Type 0
 IsAccountCorrectionCells row =

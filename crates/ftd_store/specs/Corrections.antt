@@ -1,13 +1,13 @@
 -- What a list of what was put right tells of the tables.
 use Rattle.std.specs.Prelude.{◌≡◌, ℕ, pos, List, Vec, filter}
-use Rattle.ftd_sql.specs.Orders.{CorrectionsRise, QuarterCorrectionsRise, YearCorrectionsRise}
-use Rattle.ftd_sql.specs.Orders.{YearsCorrectionsRise, AccountCorrectionsRise}
+use Rattle.ftd_sql.specs.Orders.{CorrectionsRise, YearCorrectionsRise}
+use Rattle.ftd_sql.specs.Orders.{AccountCorrectionsRise}
 use Rattle.ftd_sql.specs.Orders.{HolidayChangesRise}
 use Rattle.ftd_sql.specs.Rows.{CorrectedQuarterRow, CorrectedYearRow, CorrectedAccountRow}
 use Rattle.ftd_sql.specs.Rows.{ChangedHolidayRow}
 use Rattle.ftd_sql.specs.Standing.{Tables}
-use Rattle.ftd_sql.specs.Tests.{is_correction, is_correction_of, is_year_correction}
-use Rattle.ftd_sql.specs.Tests.{is_year_correction_of, is_account_correction_of}
+use Rattle.ftd_sql.specs.Tests.{is_correction, is_year_correction}
+use Rattle.ftd_sql.specs.Tests.{is_account_correction_of}
 use Rattle.ftd_sql.specs.Tests.{is_holiday_change_of}
 use Rattle.ftd_sql.specs.declared.TableName.TheVariants.{CorrectedQuarters, CorrectedYears}
 use Rattle.ftd_sql.specs.declared.TableName.TheVariants.{ChangedHolidays, CorrectedAccounts}
@@ -18,8 +18,6 @@ use Rattle.ftd_store.specs.Rows.{holiday_change_row}
 use Rattle.ftd_store.specs.declared.correction_cells.AccountCorrection.{AccountCorrection}
 use Rattle.ftd_store.specs.declared.correction_cells.Correction.{Correction}
 use Rattle.ftd_store.specs.declared.correction_cells.HolidayChange.{HolidayChange}
-use Rattle.ftd_store.specs.declared.correction_cells.QuarterCorrection.{QuarterCorrection}
-use Rattle.ftd_store.specs.declared.correction_cells.YearCorrection.{YearCorrection}
 
 -- ---- totals of quarters
 
@@ -33,15 +31,6 @@ ListsCorrections account quarter listed t =
     (filter (is_correction account (pos (quarter_year quarter)) (pos (quarter_number quarter)))
     (t CorrectedQuarters)) listed.items
 
--- those of all its quarters, by quarter and number
-abbrev pub IsQuarterCorrection : List ℕ → CorrectedQuarterRow → QuarterCorrection → Type 0
-IsQuarterCorrection account row c = row ≡ correction_row account c.quarter c.correction
-
-abbrev pub ListsCorrected : {A : Type 0} → List ℕ → Vec QuarterCorrection A → Tables → Type 0
-ListsCorrected account listed t =
-    Lists QuarterCorrectionsRise (IsQuarterCorrection account)
-    (filter (is_correction_of account) (t CorrectedQuarters)) listed.items
-
 -- ---- totals of years
 
 -- the corrections of the total of the account's year, by number
@@ -52,15 +41,6 @@ abbrev pub ListsYearCorrections : {A : Type 0} → List ℕ → ℕ → Vec Corr
 ListsYearCorrections account year listed t =
     Lists YearCorrectionsRise (IsCorrectionOfYear account year)
     (filter (is_year_correction account (pos year)) (t CorrectedYears)) listed.items
-
--- those of all its years, by year and number
-abbrev pub IsYearCorrection : List ℕ → CorrectedYearRow → YearCorrection → Type 0
-IsYearCorrection account row c = row ≡ year_correction_row account c.year c.correction
-
-abbrev pub ListsCorrectedYears : {A : Type 0} → List ℕ → Vec YearCorrection A → Tables → Type 0
-ListsCorrectedYears account listed t =
-    Lists YearsCorrectionsRise (IsYearCorrection account)
-    (filter (is_year_correction_of account) (t CorrectedYears)) listed.items
 
 -- ---- accounts and holidays
 

@@ -2,6 +2,7 @@
 use Rattle.std.specs.Prelude.{◌≡◌, ◌≢◌, ◌||◌, ◌&&◌, ◌==◌, ◌≤◌, true, false, ℕ, List, [], ◌∷◌}
 use Rattle.std.specs.Prelude.{Some, Bool, filter, map}
 use Rattle.std.specs.Global.{Vec}
+use Rattle.ftd_days.specs.declared.limits.TheConstants.{LAST_YEAR}
 use Rattle.ftd_days.specs.Business.{is_holiday}
 use Rattle.ftd_days.specs.Calendar.{year_of}
 use Rattle.ftd_sql.specs.Standing.{Tables}
@@ -50,7 +51,7 @@ HasYears first last holidays t =
 
 -- the holidays of a year were added to others, all of them days of the year
 pub record AddsYear (year : ℕ) (old new : List ℕ) (t : Tables) : Type 0 where
-  pub to : year ≤ 2099
+  pub to : year ≤ LAST_YEAR
   pub given : Vec ℕ
   pub is_given : FindsCalendar year (Some given) t
   pub added : Vec ℕ

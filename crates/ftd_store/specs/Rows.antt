@@ -9,7 +9,8 @@ use Rattle.ftd_sql.specs.Rows.{AccountRow, FormRow, ReportedQuarterRow, Reported
 use Rattle.ftd_sql.specs.Rows.{CalendarYearRow, HolidayRow, YearRow, RunRow, PaymentRow}
 use Rattle.ftd_sql.specs.Rows.{ObligationRow, CorrectedQuarterRow, CorrectedYearRow}
 use Rattle.ftd_sql.specs.Rows.{ChangedHolidayRow, CorrectedAccountRow}
-use Rattle.ftd_store.specs.Cells.{day_number, flag_number, rule_number, schedule_number, form_number}
+use Rattle.ftd_store.specs.Cells.{day_number, flag_number}
+use Rattle.ftd_store.specs.Cells.{rule_number, schedule_number, form_number}
 use Rattle.ftd_store.specs.declared.account_cells.Account.{Account}
 use Rattle.ftd_store.specs.declared.correction_cells.AccountCorrection.{AccountCorrection}
 use Rattle.ftd_store.specs.declared.correction_cells.Correction.{Correction}

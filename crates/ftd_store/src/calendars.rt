@@ -62,7 +62,7 @@ impl<'store, S: Alter> Tx<'store, S> {
     }
 
     /// The holidays that were added to the year after its calendar was given, rising.
-    pub fn added(&mut self, alloc: Global, year: u32) -> Result<Vec<Day>, StoreFault>
+    pub fn added_holidays(&mut self, alloc: Global, year: u32) -> Result<Vec<Day>, StoreFault>
         ensures call { Reads S.Store self.old self.new result (ListsAdded year) }
     {
         self.read_all(alloc, Reading::ListAddedHolidays, params![year])
@@ -70,7 +70,7 @@ impl<'store, S: Alter> Tx<'store, S> {
 
     /// Adds a holiday to its year. `Failed` where it was added before, and where the year's
     /// calendar was not given.
-    pub fn add_added(&mut self, day: Day) -> Result<(), StoreFault>
+    pub fn add_added_holiday(&mut self, day: Day) -> Result<(), StoreFault>
         ensures call { Writes S.Store self.old self.new result (with_added_holiday day) }
     {
         let year = day.year();

@@ -1,10 +1,9 @@
 //! What was put right: corrections of totals and of accounts, and changes of holidays, each with
 //! its number.
 
-ghost use Rattle.ftd_store.specs.CorrectionRows.{correction_cells, quarter_correction_cells};
-ghost use Rattle.ftd_store.specs.CorrectionRows.{year_correction_cells, account_correction_cells};
+ghost use Rattle.ftd_store.specs.CorrectionRows.{correction_cells};
+ghost use Rattle.ftd_store.specs.CorrectionRows.{account_correction_cells};
 ghost use Rattle.ftd_store.specs.CorrectionRows.{holiday_change_cells, IsCorrectionCells};
-ghost use Rattle.ftd_store.specs.CorrectionRows.{IsQuarterCorrectionCells, IsYearCorrectionCells};
 ghost use Rattle.ftd_store.specs.CorrectionRows.{IsAccountCorrectionCells, IsHolidayChangeCells};
 ghost use Rattle.ftd_store.specs.CorrectionRows.{as_corrected, last_account};
 ghost use Rattle.std.specs.Prelude.{◌≡◌};
@@ -13,7 +12,7 @@ use crate::account_cells::Account;
 use crate::cells::{StoredDay, StoredFlag};
 use crate::faults::StoreFault;
 use crate::reader::FromRow;
-use ftd_days::{Cents, Day, Quarter};
+use ftd_days::{Cents, Day};
 use sqlite::Row;
 
 /// A correction of a total: of a quarter's, or of a year's.
@@ -23,20 +22,6 @@ pub struct Correction {
     pub number: u32,
     /// What the total is.
     pub cents: Cents,
-}
-
-/// A correction, and the quarter whose total it is of.
-#[derive(Clone, Copy, Debug, PartialEq, Eq)]
-pub struct QuarterCorrection {
-    pub quarter: Quarter,
-    pub correction: Correction,
-}
-
-/// A correction, and the year whose total it is of.
-#[derive(Clone, Copy, Debug, PartialEq, Eq)]
-pub struct YearCorrection {
-    pub year: u32,
-    pub correction: Correction,
 }
 
 /// A correction of an account's first day, and of whether it was carried over.
@@ -73,58 +58,6 @@ impl FromRow for Correction {
             number,
             cents: Cents(cents),
         })
-    }
-}
-
-// The year of the quarter and its number, 1 to 4, then the cells of the correction.
-impl FromRow for QuarterCorrection {
-    ghost shown = { quarter_correction_cells };
-
-    ghost is_readable = { IsQuarterCorrectionCells };
-
-    fn from_row(row: &Row) -> Result<QuarterCorrection, StoreFault> {
-        if row.column_count() != 4 {
-            return Err(StoreFault::Failed);
-        }
-        let year = row.get(0)?;
-        let part: u32 = row.get(1)?;
-        let number = row.get(2)?;
-        let cents = row.get(3)?;
-        let Ok(part) = u8::try_from(part) else {
-            return Err(StoreFault::Failed);
-        };
-        let correction = Correction {
-            number,
-            cents: Cents(cents),
-        };
-        match Quarter::new(year, part) {
-            Some(quarter) => Ok(QuarterCorrection {
-                quarter,
-                correction,
-            }),
-            None => Err(StoreFault::Failed),
-        }
-    }
-}
-
-// The year, then the cells of the correction.
-impl FromRow for YearCorrection {
-    ghost shown = { year_correction_cells };
-
-    ghost is_readable = { IsYearCorrectionCells };
-
-    fn from_row(row: &Row) -> Result<YearCorrection, StoreFault> {
-        if row.column_count() != 3 {
-            return Err(StoreFault::Failed);
-        }
-        let year = row.get(0)?;
-        let number = row.get(1)?;
-        let cents = row.get(2)?;
-        let correction = Correction {
-            number,
-            cents: Cents(cents),
-        };
-        Ok(YearCorrection { year, correction })
     }
 }
 

@@ -3,16 +3,15 @@
 ghost use Rattle.ftd_store.specs.Amounts.{IsStorable};
 ghost use Rattle.ftd_store.specs.Changes.{with_correction, with_year_correction};
 ghost use Rattle.ftd_store.specs.Changes.{with_account_correction, with_holiday_change};
-ghost use Rattle.ftd_store.specs.Corrections.{ListsCorrections, ListsCorrected};
-ghost use Rattle.ftd_store.specs.Corrections.{ListsYearCorrections, ListsCorrectedYears};
+ghost use Rattle.ftd_store.specs.Corrections.{ListsCorrections};
+ghost use Rattle.ftd_store.specs.Corrections.{ListsYearCorrections};
 ghost use Rattle.ftd_store.specs.Corrections.{ListsAccountCorrections, ListsHolidayChanges};
 ghost use Rattle.ftd_store.specs.Frame.{Reads, Writes};
 
 use crate::readings::Reading;
 use crate::tx::Tx;
 use crate::{
-    AccountCorrection, Correction, HolidayChange, QuarterCorrection, StoreFault, StoredCents,
-    StoredDay, StoredFlag, YearCorrection,
+    AccountCorrection, Correction, HolidayChange, StoreFault, StoredCents, StoredDay, StoredFlag,
 };
 use ftd_days::Quarter;
 use ftd_sql::TableName;
@@ -37,18 +36,6 @@ impl<'store, S: Alter> Tx<'store, S> {
             Reading::ListCorrections,
             params![account, year, part],
         )
-    }
-
-    /// The corrections of all the totals that the account reported for quarters, by quarter and
-    /// number.
-    pub fn corrected(
-        &mut self,
-        alloc: Global,
-        account: &str,
-    ) -> Result<Vec<QuarterCorrection>, StoreFault>
-        ensures call { Reads S.Store self.old self.new result (ListsCorrected account.now) }
-    {
-        self.read_all(alloc, Reading::ListCorrected, params![account])
     }
 
     /// Adds a correction of the total of the quarter. `Failed` where there is one of its number,
@@ -85,17 +72,6 @@ impl<'store, S: Alter> Tx<'store, S> {
             (ListsYearCorrections account.now year) }
     {
         self.read_all(alloc, Reading::ListYearCorrections, params![account, year])
-    }
-
-    /// The corrections of all the totals that the account reported for years, by year and number.
-    pub fn corrected_years(
-        &mut self,
-        alloc: Global,
-        account: &str,
-    ) -> Result<Vec<YearCorrection>, StoreFault>
-        ensures call { Reads S.Store self.old self.new result (ListsCorrectedYears account.now) }
-    {
-        self.read_all(alloc, Reading::ListCorrectedYears, params![account])
     }
 
     /// Adds a correction of the total of the year. `Failed` where there is one of its number, and

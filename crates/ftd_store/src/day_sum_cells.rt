@@ -12,7 +12,7 @@ use ftd_rules::{DaySum, PayRun};
 use std::alloc::Global;
 
 /// Two amounts together. `Failed` where they are more than a `u64` of cents.
-pub fn added(one: Cents, other: Cents) -> Result<Cents, StoreFault>
+pub fn add_cents(one: Cents, other: Cents) -> Result<Cents, StoreFault>
     ensures { MatchResult result (λ cents. cents.0 ≡ one.0 + other.0)
         (λ fault. (fault ≡ StoreFault.Failed) × (2 ^ 64 ≤ one.0 + other.0)) }
 {
@@ -27,8 +27,8 @@ pub fn sum_of(run: PayRun) -> Result<DaySum, StoreFault>
     ensures { MatchResult result (λ sum. sum ≡ run_sum run)
         (λ fault. (fault ≡ StoreFault.Failed) × (2 ^ 64 ≤ (run_sum run).cents.0)) }
 {
-    let withheld = added(run.fit, run.ss)?;
-    let cents = added(withheld, run.medicare)?;
+    let withheld = add_cents(run.fit, run.ss)?;
+    let cents = add_cents(withheld, run.medicare)?;
     Ok(DaySum {
         day: run.payday,
         cents,
@@ -48,7 +48,7 @@ fn add_sum(sums: &mut Vec<DaySum>, sum: DaySum) -> Result<(), StoreFault>
 {
     match sums.last_mut() {
         Some(last) if last.day == sum.day => {
-            last.cents = added(last.cents, sum.cents)?;
+            last.cents = add_cents(last.cents, sum.cents)?;
             Ok(())
         }
         _ => {

@@ -11,7 +11,7 @@ ghost use Rattle.ftd_store.specs.Holidays.{is_holiday_in, is_kept};
 
 use crate::tx::Tx;
 use crate::{HolidayChange, StoreFault};
-use ftd_days::{CalendarFault, Day, Holidays};
+use ftd_days::{CalendarFault, Day, Holidays, LAST_YEAR};
 use sqlite::Alter;
 use std::alloc::Global;
 
@@ -29,7 +29,7 @@ fn add_both(
         || (is_holiday given.now day || is_holiday added.now day))) }
     ensures given { OnOk result (All (λ day. year_of day ≡ year) given.now) }
     ensures added { OnOk result (All (λ day. year_of day ≡ year) added.now) }
-    ensures year { OnOk result (year ≤ 2099) }
+    ensures year { OnOk result (year ≤ LAST_YEAR) }
 {
     holidays.add_year(year, given)?;
     for day in added {
@@ -83,7 +83,7 @@ fn add_in_force(
         || is_holiday_in given.now added.now changes.now day)) }
     ensures elsewhere { OnOk result ((day : ℕ) → year_of day ≢ year
         → is_holiday_in given.now added.now changes.now day ≡ false) }
-    ensures year { OnOk result (year ≤ 2099) }
+    ensures year { OnOk result (year ≤ LAST_YEAR) }
 {
     let given = kept(alloc, given, changes)?;
     let added = kept(alloc, added, changes)?;
@@ -108,7 +108,7 @@ impl<'store, S: Alter> Tx<'store, S> {
         let Some(given) = self.calendar(alloc, year)? else {
             return Ok(false);
         };
-        let added = self.added(alloc, year)?;
+        let added = self.added_holidays(alloc, year)?;
         let changes = self.holiday_changes(alloc, year)?;
         match add_in_force(alloc, holidays, year, &given, &added, &changes) {
             Ok(()) => Ok(true),

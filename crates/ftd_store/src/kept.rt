@@ -16,7 +16,7 @@ use std::alloc::Global;
 
 impl<'store, S: Alter> Tx<'store, S> {
     /// All accounts, by name.
-    pub fn enrolled(&mut self, alloc: Global) -> Result<Vec<NamedAccount>, StoreFault>
+    pub fn all_accounts(&mut self, alloc: Global) -> Result<Vec<NamedAccount>, StoreFault>
         ensures call { Reads S.Store self.old self.new result ListsEnrolled }
     {
         self.read_all(alloc, Reading::ListEnrolled, params![])

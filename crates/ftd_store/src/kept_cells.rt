@@ -1,6 +1,7 @@
 //! Rows in lists of what is kept.
 
-ghost use Rattle.ftd_store.specs.KeptRows.{named_account_cells, named_form_cells, quarter_total_cells};
+ghost use Rattle.ftd_store.specs.KeptRows.{named_account_cells};
+ghost use Rattle.ftd_store.specs.KeptRows.{named_form_cells, quarter_total_cells};
 ghost use Rattle.ftd_store.specs.KeptRows.{year_total_cells, numbered_run_cells};
 ghost use Rattle.ftd_store.specs.KeptRows.{numbered_payment_cells, IsNamedAccountCells};
 ghost use Rattle.ftd_store.specs.KeptRows.{IsNamedFormCells, IsQuarterTotalCells, IsYearTotalCells};

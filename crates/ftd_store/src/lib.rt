@@ -40,10 +40,8 @@ pub use crate::account_cells::Account;
 pub use crate::cells::{
     StoredCents, StoredDay, StoredFlag, StoredForm, StoredRule, StoredSchedule,
 };
-pub use crate::correction_cells::{
-    AccountCorrection, Correction, HolidayChange, QuarterCorrection, YearCorrection, as_corrected,
-};
-pub use crate::day_sum_cells::{added, sum_of, sums_of};
+pub use crate::correction_cells::{AccountCorrection, Correction, HolidayChange, as_corrected};
+pub use crate::day_sum_cells::{add_cents, sum_of, sums_of};
 pub use crate::faults::StoreFault;
 pub use crate::holidays::is_kept;
 pub use crate::kept_cells::{

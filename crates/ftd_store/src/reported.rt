@@ -14,7 +14,11 @@ use sqlite::{Alter, params};
 
 impl<'store, S: Alter> Tx<'store, S> {
     /// The total that the account reported for the quarter, or None.
-    pub fn reported(&mut self, account: &str, quarter: Quarter) -> Result<Option<Cents>, StoreFault>
+    pub fn reported_total(
+        &mut self,
+        account: &str,
+        quarter: Quarter,
+    ) -> Result<Option<Cents>, StoreFault>
         ensures call { Reads S.Store self.old self.new result (FindsReported account.now quarter) }
     {
         let year = quarter.year();
@@ -43,7 +47,11 @@ impl<'store, S: Alter> Tx<'store, S> {
     }
 
     /// The total that the account reported for the year, or None.
-    pub fn reported_year(&mut self, account: &str, year: u32) -> Result<Option<Cents>, StoreFault>
+    pub fn reported_year_total(
+        &mut self,
+        account: &str,
+        year: u32,
+    ) -> Result<Option<Cents>, StoreFault>
         ensures call { Reads S.Store self.old self.new result (FindsReportedYear account.now year) }
     {
         self.read_only(Reading::ReadReportedYear, params![account, year])

@@ -12,7 +12,7 @@ use crate::account_cells::Account;
 use crate::cells::{StoredDay, StoredSchedule};
 use crate::faults::StoreFault;
 use crate::reader::FromRow;
-use ftd_days::{Cents, Day};
+use ftd_days::{Cents, Day, FIRST_YEAR, LAST_OPEN_YEAR, LAST_YEAR};
 use ftd_rules::{Kind, YearLine};
 use sqlite::Row;
 use std::alloc::Global;
@@ -122,11 +122,11 @@ fn turn_fits(line: &YearLine) -> bool
 fn first_year(lines: &[YearLine]) -> u32
     ensures some { (line : YearLine) (more : List YearLine) → lines.now ≡ line ∷ more
         → result ≡ line.year }
-    ensures none { lines.now ≡ [] → result ≡ 2001 }
+    ensures none { lines.now ≡ [] → result ≡ FIRST_YEAR }
 {
     match lines.first() {
         Some(line) => line.year,
-        None => 2001,
+        None => FIRST_YEAR,
     }
 }
 
@@ -139,12 +139,12 @@ fn check_years(lines: &[YearLine]) -> Result<(), StoreFault>
         → ¬ All HasFittingTurn lines.now)) }
 {
     let first = first_year(lines);
-    if first < 2001 || first > 2099 {
+    if first < FIRST_YEAR || first > LAST_YEAR {
         return Err(StoreFault::Failed);
     }
     let mut year = first;
     for line in lines {
-        if line.year != year || year > 2098 || !turn_fits(line) {
+        if line.year != year || year > LAST_OPEN_YEAR || !turn_fits(line) {
             return Err(StoreFault::Failed);
         }
         year += 1;

@@ -2,7 +2,7 @@
 
 use crate::desks::new_desk;
 use crate::peers::{cut, exchange, whole};
-use ftd_server::{End, Served};
+use ftd_server::{End, ServedConnection};
 use std::alloc::Global;
 use std::process::Abort;
 use std::test::Fail;
@@ -23,7 +23,11 @@ const BAD: &[u8] = b"HTTP/1.1 400 Bad Request\r\nContent-Length: 0\r\nConnection
 fn is_answered(rt: &impl Abort, alloc: Global, first: usize, piece: usize) -> Result<(), Fail> {
     let (served, written) = exchange(alloc, &mut new_desk(alloc)?, cut(INPUT, first, piece));
     let end = End::Asked;
-    assert_eq!(rt; served, Ok(Served { answered: 2, end }), "{first} {piece}");
+    assert_eq!(rt;
+        served,
+        Ok(ServedConnection { answered: 2, end }),
+        "{first} {piece}"
+    );
     assert_eq!(rt; written.as_slice(), OUTPUT);
     Ok(())
 }
@@ -47,7 +51,7 @@ fn ends_early(rt: &impl Abort, alloc: Global, input: &[u8]) -> Result<(), Fail> 
     } else {
         End::Truncated
     };
-    assert_eq!(rt; served, Ok(Served { answered, end }), "{count}");
+    assert_eq!(rt; served, Ok(ServedConnection { answered, end }), "{count}");
     assert_eq!(rt; written.as_slice(), &OUTPUT[..length]);
     Ok(())
 }
@@ -66,7 +70,7 @@ type Row<'a> = (&'a [u8], &'a [u8], u32, End);
 fn answers(rt: &impl Abort, alloc: Global, row: Row<'_>) -> Result<(), Fail> {
     let (input, text, answered, end) = row;
     let (served, written) = exchange(alloc, &mut new_desk(alloc)?, whole(input));
-    assert_eq!(rt; served, Ok(Served { answered, end }));
+    assert_eq!(rt; served, Ok(ServedConnection { answered, end }));
     assert_eq!(rt; written.as_slice(), text);
     Ok(())
 }
@@ -127,7 +131,7 @@ fn a_connection_has_a_hundred_messages(rt: HostRuntime) -> Result<(), Fail> {
     let sender = cut(input.as_slice(), 4000, 4000);
     let (served, written) = exchange(rt.alloc(), &mut new_desk(rt.alloc())?, sender);
     let end = End::Limit;
-    assert_eq!(rt; served, Ok(Served { answered: 100, end }));
+    assert_eq!(rt; served, Ok(ServedConnection { answered: 100, end }));
     // Each answer has 45 bytes, and the last has `Connection: close` besides.
     assert_eq!(rt; written.len(), 100 * 45 + 19);
     Ok(())

@@ -2,7 +2,7 @@
 
 use ftd_desk::Desk;
 use ftd_ports::Port;
-use ftd_server::{ServeFault, Served, serve};
+use ftd_server::{ServeFault, ServedConnection, serve};
 use sqlite::MemStore;
 use std::alloc::Global;
 use std::io::{Error, ErrorKind, Read};
@@ -42,7 +42,7 @@ pub(crate) fn exchange(
     alloc: Global,
     desk: &mut Desk<MemStore>,
     sender: Sender<'_>,
-) -> (Result<Served, ServeFault>, Vec<u8>) {
+) -> (Result<ServedConnection, ServeFault>, Vec<u8>) {
     let mut source = Port::new(sender);
     let mut target = Port::new(Vec::new(alloc));
     let served = serve(alloc, desk, &mut source, &mut target);

@@ -4,7 +4,7 @@ ghost use Rattle.std.specs.Prelude.{◌≡◌, ◌<◌, IfOk};
 ghost use Rattle.std.specs.List.{sum_by};
 ghost use Rattle.ftd_rules.specs.Verdicts.{amount_of};
 
-use ftd_answers::{DueText, Unwritten, due_list, schedule_b};
+use ftd_answers::{DueText, UnwrittenText, due_list, schedule_b};
 use ftd_days::{Cents, Day, Quarter};
 use ftd_ports::{Port, PortFault, Source, Target, WriteFault};
 use ftd_rules::{DaySum, DueRow, DueSink, Obligation, Rule, SinkFault, Verdict};
@@ -110,7 +110,7 @@ fn written_by_rows(alloc: Global, room: usize) -> Result<(Vec<u8>, bool, bool), 
     let took = text.row(&row).is_ok();
     match text.end() {
         Ok(port) => Ok((taken_by(port), took, true)),
-        Err(Unwritten { writer }) => Ok((taken_by(writer), took, false)),
+        Err(UnwrittenText { writer }) => Ok((taken_by(writer), took, false)),
     }
 }
 
@@ -190,7 +190,7 @@ fn a_total_stays_below_the_bound(rt: HostRuntime) -> Result<(), Fail> {
     assert_eq!(rt; text.row(&row_of(1)?), Ok(()));
     assert_eq!(rt; text.row(&row_of(1)?), Err(SinkFault));
     assert_eq!(rt; text.row(&row_of(0)?), Err(SinkFault));
-    let Err(Unwritten { writer }) = text.end() else {
+    let Err(UnwrittenText { writer }) = text.end() else {
         return Err("an end")?;
     };
     // The first line and the lines of two rows.

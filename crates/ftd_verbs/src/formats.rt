@@ -32,7 +32,7 @@ impl Formats {
     }
 
     /// The one of these formats that is named so, if one is.
-    pub fn named(self, text: &str) -> Option<Format>
+    pub fn by_name(self, text: &str) -> Option<Format>
         ensures { result ≡ named self text.now }
     {
         let format = format_named(text)?;

@@ -12,16 +12,13 @@ ghost use Rattle.ftd_verbs.specs.Asked.{last_asked, schedule_b, status, unapplie
 ghost use Rattle.ftd_verbs.specs.Asked.{void_pay, week_after, whole_in, years};
 
 use crate::{Field, FieldFault, Fields, Verb};
-use ftd_days::{Cents, Day, Quarter};
+use ftd_days::{Cents, Day, LAST_NUMBER, Quarter};
 use ftd_machine::{
-    Account, AccountName, Beginning, Correction, Days, Entry, Kept, MOST_NUMBER, Question, Request,
-    ReturnPeriod,
+    Account, AccountName, Beginning, Correction, Days, Entry, KeptList, MOST_NUMBER, Question,
+    Request, ReturnPeriod,
 };
 use ftd_rules::{Form, PayRun, Payment};
 use std::alloc::Global;
-
-/// The number of the last day, 31 December 2199, in days since 1970-01-01.
-const LAST_NUMBER: i32 = 84_005;
 
 fn account_in<F: Fields>(alloc: Global, fields: &F) -> Result<AccountName, FieldFault>
     ensures { Tells result (account_in (F.said fields.now)) }
@@ -411,7 +408,7 @@ fn years<F: Fields>(alloc: Global, fields: &F) -> Result<Request, FieldFault>
     ensures { Tells result (years (F.said fields.now)) }
 {
     let account = account_in(alloc, fields)?;
-    Ok(Request::Question(Question::Kept(Kept::Years { account })))
+    Ok(Request::Question(Question::Kept(KeptList::Years { account })))
 }
 
 /// The totals that an account reported.
@@ -420,7 +417,7 @@ fn reported<F: Fields>(alloc: Global, fields: &F) -> Result<Request, FieldFault>
     ensures { Tells result (reported (F.said fields.now)) }
 {
     let account = account_in(alloc, fields)?;
-    Ok(Request::Question(Question::Kept(Kept::Reported { account })))
+    Ok(Request::Question(Question::Kept(KeptList::Reported { account })))
 }
 
 /// The holidays of a year.
@@ -429,7 +426,7 @@ fn holidays<F: Fields>(fields: &F) -> Result<Request, FieldFault>
     ensures { Tells result (holidays (F.said fields.now)) }
 {
     let year = whole_in(fields, Field::Year)?;
-    Ok(Request::Question(Question::Kept(Kept::Holidays { year })))
+    Ok(Request::Question(Question::Kept(KeptList::Holidays { year })))
 }
 
 /// The pay runs of a quarter.
@@ -439,7 +436,7 @@ fn runs<F: Fields>(alloc: Global, fields: &F) -> Result<Request, FieldFault>
 {
     let account = account_in(alloc, fields)?;
     let quarter = quarter_in(fields, Field::Quarter)?;
-    Ok(Request::Question(Question::Kept(Kept::Runs { account, quarter })))
+    Ok(Request::Question(Question::Kept(KeptList::Runs { account, quarter })))
 }
 
 /// The payments of a quarter.
@@ -449,7 +446,7 @@ fn payments<F: Fields>(alloc: Global, fields: &F) -> Result<Request, FieldFault>
 {
     let account = account_in(alloc, fields)?;
     let quarter = quarter_in(fields, Field::Quarter)?;
-    Ok(Request::Question(Question::Kept(Kept::Payments { account, quarter })))
+    Ok(Request::Question(Question::Kept(KeptList::Payments { account, quarter })))
 }
 
 /// What the verb asks, by its fields in their order. An error names the first of them that has no
@@ -479,7 +476,7 @@ pub fn read_request<F: Fields>(alloc: Global, verb: Verb, fields: &F) -> Result<
         Verb::Owed => owed(fields),
         Verb::Unapplied => unapplied(fields),
         Verb::ScheduleB => schedule_b(alloc, fields),
-        Verb::Accounts => Ok(Request::Question(Question::Kept(Kept::Accounts))),
+        Verb::Accounts => Ok(Request::Question(Question::Kept(KeptList::Accounts))),
         Verb::Years => years(alloc, fields),
         Verb::Reported => reported(alloc, fields),
         Verb::Holidays => holidays(fields),

@@ -11,7 +11,7 @@ ghost use Rattle.ftd_desk.specs.Desks.{IsStopped, held, KeepsIfOpen};
 ghost use Rattle.ftd_desk.specs.Telling.{StandsAsBefore};
 
 use crate::desk::Desk;
-use ftd_days::{Day, Quarter};
+use ftd_days::{Day, FIRST_YEAR, LAST_OPEN_YEAR, Quarter};
 use ftd_machine::{Account, AccountName, Refusal};
 use ftd_rules::{PayRun, Payment, Voidable};
 use sqlite::Alter;
@@ -27,8 +27,8 @@ impl<S: Alter> Desk<S> {
         first: Quarter,
         year: u32,
     ) -> Result<Vec<Quarter>, Refusal>
-        requires from { 2001 ≤ year }
-        requires to { year ≤ 2098 }
+        requires from { FIRST_YEAR ≤ year }
+        requires to { year ≤ LAST_OPEN_YEAR }
         ensures knows { HasCleanDisk (held S.Store self.new).db
             → (s : State) → KeepsIfOpen (held S.Store self.old) s
             → IfOk result (λ quarters.
@@ -100,9 +100,9 @@ impl<S: Alter> Desk<S> {
         ftd_questions::meant_account(&mut self.store, self.alloc, typed)
     }
 
-    /// As what the account was enrolled, or None where there is none. `Memory` and `Store` may come in
-    /// place of it. The tables stay as they are. A desk that is stopped answers `Store`, and touches
-    /// nothing.
+    /// As what the account was enrolled, or None where there is none. `Memory` and `Store` may come
+    /// in place of it. The tables stay as they are. A desk that is stopped answers `Store`, and
+    /// touches nothing.
     pub fn enrolled_account(&mut self, account: &str) -> Result<Option<Account>, Refusal>
         ensures knows { HasCleanDisk (held S.Store self.new).db
             → (s : State) → KeepsIfOpen (held S.Store self.old) s
@@ -118,9 +118,9 @@ impl<S: Alter> Desk<S> {
         ftd_questions::enrolled_account(&mut self.store, account)
     }
 
-    /// Whether nothing rests on the account: no total was reported, and no year is open. `Memory` and
-    /// `Store` may come in place of it. The tables stay as they are. A desk that is stopped answers
-    /// `Store`, and touches nothing.
+    /// Whether nothing rests on the account: no total was reported, and no year is open. `Memory`
+    /// and `Store` may come in place of it. The tables stay as they are. A desk that is stopped
+    /// answers `Store`, and touches nothing.
     pub fn is_unused(&mut self, account: &str) -> Result<bool, Refusal>
         ensures knows { HasCleanDisk (held S.Store self.new).db
             → (s : State) → KeepsIfOpen (held S.Store self.old) s

@@ -11,7 +11,7 @@ ghost use Rattle.ftd_desk.specs.Desks.{store_of, IsStopped, held, Rests, Keeps};
 ghost use Rattle.ftd_desk.specs.Opened.{Ended, Opens};
 
 use crate::desk::Desk;
-use ftd_setup::NotOpened;
+use ftd_setup::UnopenedDatabase;
 use ftd_store::Store;
 use sqlite::{Alter, Connection};
 use std::alloc::Global;
@@ -23,7 +23,7 @@ impl<S: Alter> Desk<S> {
     /// was entered. What it lists takes its memory from the allocator. `NotOurs`, `Newer` and
     /// `Store` come as from `ftd_setup::open`, and give the connection back with the rows that it
     /// had.
-    pub fn open(alloc: Global, conn: Connection<S>) -> Result<Desk<S>, NotOpened<S>>
+    pub fn open(alloc: Global, conn: Connection<S>) -> Result<Desk<S>, UnopenedDatabase<S>>
         ensures opens { IfOk result (λ desk. Opens (state S.Store conn) (held S.Store desk)) }
         ensures goes { IfOk result (λ desk. ¬ IsStopped desk) }
         ensures ended { Ended S.Store result (Opening (state S.Store conn)) }
@@ -48,7 +48,7 @@ impl<S: Alter> Desk<S> {
 
     /// Closes the desk, and opens one over its database: it stands for the state for which the desk
     /// stood, and is not stopped. The faults are those of `open`.
-    pub fn reopen(self) -> Result<Desk<S>, NotOpened<S>>
+    pub fn reopen(self) -> Result<Desk<S>, UnopenedDatabase<S>>
         ensures stands { IfOk result (λ desk. HasCleanDisk (held S.Store desk).db
             → (s : State) → Keeps (held S.Store self) s → Keeps (held S.Store desk) s) }
         ensures goes { IfOk result (λ desk. ¬ IsStopped desk) }

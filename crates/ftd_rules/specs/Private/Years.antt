@@ -1,6 +1,7 @@
 -- How a year opens, where a fact stands for the turn of the year before, and the first semiweekly
 -- day.
 use Rattle.std.specs.Prelude.{◌≡◌, ℕ, ◌+◌, ◌<◌, ◌⊎◌, Option, None, Some, IsTrue}
+use Rattle.ftd_rules.specs.declared.TheConstants.{MONTHLY_LIMIT}
 use Rattle.ftd_days.specs.Calendar.{year_start}
 use Rattle.ftd_rules.specs.declared.Kind.{Kind}
 use Rattle.ftd_rules.specs.declared.Kind.TheVariants as kind
@@ -9,7 +10,8 @@ use Rattle.ftd_rules.specs.Years.{year_last, HasTurn}
 
 -- whether the year opens semiweekly, where `turned_before` says that the year before has a turn
 abbrev pub OpensBy : Type 0 → YearLine → Type 0
-OpensBy turned_before line = (5_000_000 < line.lookback.0) ⊎ (IsTrue line.carried ⊎ turned_before)
+OpensBy turned_before line =
+    (MONTHLY_LIMIT < line.lookback.0) ⊎ (IsTrue line.carried ⊎ turned_before)
 
 -- its opening and its turn
 abbrev pub IsScheduled : Type 0 → (ℕ → ℕ → ℕ) → YearLine → Type 0

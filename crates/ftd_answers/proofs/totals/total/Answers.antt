@@ -8,7 +8,7 @@ loop-row-init g c = record { total = omega arith; bound = omega arith }
 pub loop-row-preserved : goal.loop-row-preserved
 loop-row-preserved g c =
     record {
-      total = let more = amounts_at (g.A.Counted.counted c.args.counts.now) c.args.rows.now
+      total = let more = amounts_at (g.A.RowAmount.counted c.args.counts.now) c.args.rows.now
           c.loop-row.row-index c.row-item.result c.loop-row-test.true c.row-item.is in
           let before = c.loop-row.invariant.total in
           let counts = c.cents.ensures in
@@ -17,5 +17,5 @@ loop-row-preserved g c =
     }
 
 pub returns : goal.returns
-returns g c = amounts_end (g.A.Counted.counted c.args.counts.now) c.args.rows.now
+returns g c = amounts_end (g.A.RowAmount.counted c.args.counts.now) c.args.rows.now
     c.loop-row.row-index c.loop-row.total c.loop-row-test.false c.loop-row.invariant.total

@@ -6,7 +6,7 @@ use Rattle.ftd_answers.proofs.totals.total.Given as goal
 abbrev pub invariant-loop-row : goal.invariant-loop-row
 invariant-loop-row g l =
     record {
-      total : l.total + sum_by (g.A.Counted.counted l.counts) (drop l.row-index l.rows)
-          ≡ sum_by (g.A.Counted.counted l.counts) l.rows;
+      total : l.total + sum_by (g.A.RowAmount.counted l.counts) (drop l.row-index l.rows)
+          ≡ sum_by (g.A.RowAmount.counted l.counts) l.rows;
       bound : l.total ≤ 18_446_744_073_709_551_615 * l.row-index;
     }

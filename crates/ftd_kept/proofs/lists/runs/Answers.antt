@@ -8,7 +8,7 @@ use Rattle.ftd_machine.specs.Told.{kept_answer}
 use Rattle.ftd_machine.specs.Requests.{kept_in_quarter_checks}
 use Rattle.ftd_machine.specs.State.{entries_of}
 use Rattle.ftd_machine.specs.declared.kept.KeptRows.TheVariants as rows
-use Rattle.ftd_machine.specs.declared.requests.Kept.TheVariants as kept
+use Rattle.ftd_machine.specs.declared.requests.KeptList.TheVariants as kept
 use Rattle.ftd_machine.specs.declared.requests.Question.TheVariants as questions
 use Rattle.ftd_machine.specs.declared.requests.Request.TheVariants.{Question}
 use Rattle.ftd_machine.proofs.Deciding.{decided, passed}

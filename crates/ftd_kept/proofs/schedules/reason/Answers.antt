@@ -11,7 +11,7 @@ returns-in_default-turn c = λ day L schedule status.
     let lines = c.args.lines.now in
     let line = c.args.line.now in
     let semiweekly : c.args.kind ≡ Monthly → ⊥ = search (rules, c.if-eq.false, c.eq.ensures) in
-    let little : 5_000_000 < line.lookback.0 → ⊥ = λ much. (let less = c.if-line-gt5000000.false in
+    let little : 5_000_000 < line.lookback.0 → ⊥ = λ much. (let less = c.if-line-gt-MONTHLY_LIMIT.false in
     omega (arith, less)) in
     let none : HasNoTurnBefore lines line = c.in_default.ensures line refl in
     let either : (line.carried ≡ true) ⊎ (line.turn ≡ None) = elim c.in_default-turn.branch [

@@ -1,6 +1,6 @@
 use Rattle.std.proofs.Common.{Ok}
 use Rattle.ftd_desk.specs.Desks.{held}
-use Rattle.ftd_replies.specs.declared.hints.Known.TheVariants.{Nothing}
+use Rattle.ftd_replies.specs.declared.hints.HintFacts.TheVariants.{Nothing}
 use Rattle.ftd_program.proofs.Mended.{answered_after, knows_after, still_handles}
 use Rattle.ftd_program.proofs.performing.print_answer.Goals as goal
 

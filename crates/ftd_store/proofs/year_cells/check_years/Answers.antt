@@ -9,11 +9,11 @@ use Rattle.ftd_store.specs.Years.{HasFittingTurn}
 use Rattle.ftd_store.proofs.OpenYears.{open_years_at}
 use Rattle.std.proofs.lemmas.Bool.{false≢true}
 use Rattle.ftd_store.proofs.year_cells.check_years.Goals as goal
-use Rattle.ftd_store.proofs.year_cells.check_years.Goals.{then-first-lt2001-via-then-first-lt2001}
-use Rattle.ftd_store.proofs.year_cells.check_years.Goals.{then-first-lt2001-via-else-first-lt2001+then-first-gt2099}
+use Rattle.ftd_store.proofs.year_cells.check_years.Goals.{then-first-lt-FIRST_YEAR-via-then-first-lt-FIRST_YEAR}
+use Rattle.ftd_store.proofs.year_cells.check_years.Goals.{then-first-lt-FIRST_YEAR-via-else-first-lt-FIRST_YEAR+then-first-gt-LAST_YEAR}
 use Rattle.ftd_store.proofs.year_cells.check_years.Goals.{then-line-year-via-then-line-year}
-use Rattle.ftd_store.proofs.year_cells.check_years.Goals.{then-line-year-via-else-line-year+then-year-gt2098}
-use Rattle.ftd_store.proofs.year_cells.check_years.Goals.{then-line-year-via-else-line-year+else-year-gt2098+then-not-turn_fits}
+use Rattle.ftd_store.proofs.year_cells.check_years.Goals.{then-line-year-via-else-line-year+then-year-gt-LAST_OPEN_YEAR}
+use Rattle.ftd_store.proofs.year_cells.check_years.Goals.{then-line-year-via-else-line-year+else-year-gt-LAST_OPEN_YEAR+then-not-turn_fits}
 
 pub loop-line-preserved : goal.loop-line-preserved
 loop-line-preserved c =
@@ -35,26 +35,26 @@ loop-line-preserved c =
     ) in
     let years : YearsFrom first (take (i + 1) xs) = subst (YearsFrom first) (sym cut)
     (years_push first (take i xs) x inv.2 year
-    (omega (arith, c.if-year-gt2098.false, inv.0, long))) in
+    (omega (arith, c.if-year-gt-LAST_OPEN_YEAR.false, inv.0, long))) in
     let fits : HasFittingTurn (get_or xs i x) = subst HasFittingTurn is
     (c.turn_fits.ensures.0 c.if-not-turn_fits.false) in (
       omega (arith, inv.0),
-      omega (arith, c.if-year-gt2098.false),
+      omega (arith, c.if-year-gt-LAST_OPEN_YEAR.false),
       years,
       All-more HasFittingTurn xs i x c.loop-line-test.true inv.3 fits,
     )
 
-pub returns-then-first-lt2001-clause-bad : goal.returns-then-first-lt2001-clause-bad
-returns-then-first-lt2001-clause-bad c = (
+pub returns-then-first-lt-FIRST_YEAR-clause-bad : goal.returns-then-first-lt-FIRST_YEAR-clause-bad
+returns-then-first-lt-FIRST_YEAR-clause-bad c = (
   refl,
   λ opened fit.
       let known = open_years_at c.args.lines.now c.first_year-first.result
       c.first_year-first.ensures.none c.first_year-first.ensures.some opened in
-      elim c.then-first-lt2001.branch [
-        | then-first-lt2001-via-then-first-lt2001 w ↦ absurd (let t = w.if-first-lt2001.true in
+      elim c.then-first-lt-FIRST_YEAR.branch [
+        | then-first-lt-FIRST_YEAR-via-then-first-lt-FIRST_YEAR w ↦ absurd (let t = w.if-first-lt-FIRST_YEAR.true in
             omega (arith, known.0, t))
-        | then-first-lt2001-via-else-first-lt2001+then-first-gt2099 w ↦
-            absurd (let t = w.if-first-gt2099.true in omega (arith, known.1, t))
+        | then-first-lt-FIRST_YEAR-via-else-first-lt-FIRST_YEAR+then-first-gt-LAST_YEAR w ↦
+            absurd (let t = w.if-first-gt-LAST_YEAR.true in omega (arith, known.1, t))
       ],
 )
 
@@ -76,9 +76,9 @@ returns-then-line-year-clause-bad c = (
       elim c.then-line-year.branch [
         | then-line-year-via-then-line-year w ↦ absurd (let t = w.if-line-year.true in
             omega (arith, year, inv, t))
-        | then-line-year-via-else-line-year+then-year-gt2098 w ↦
-            absurd (let t = w.if-year-gt2098.true in let top = here.1 in omega (arith, top, inv, t))
-        | then-line-year-via-else-line-year+else-year-gt2098+then-not-turn_fits w ↦ absurd (
+        | then-line-year-via-else-line-year+then-year-gt-LAST_OPEN_YEAR w ↦
+            absurd (let t = w.if-year-gt-LAST_OPEN_YEAR.true in let top = here.1 in omega (arith, top, inv, t))
+        | then-line-year-via-else-line-year+else-year-gt-LAST_OPEN_YEAR+then-not-turn_fits w ↦ absurd (
             let fits : HasFittingTurn x = subst HasFittingTurn (sym same)
             (All-get_or HasFittingTurn xs i x within fit) in
             false≢true (sym w.if-not-turn_fits.true ∙ w.turn_fits.ensures.1 fits))

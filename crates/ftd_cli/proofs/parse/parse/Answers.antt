@@ -2,7 +2,7 @@ use Rattle.std.proofs.Common.{sym, ap, ◌∙◌, map}
 use Rattle.std.specs.String.{string_bytes}
 use Rattle.clap.specs.Words.{App, fault_of, is_simple, is_simple_and_free, subcommand_of}
 use Rattle.ftd_cli.proofs.Simple.{free, simple}
-use Rattle.ftd_cli.proofs.parse.parsed.Goals as goal
+use Rattle.ftd_cli.proofs.parse.parse.Goals as goal
 
 pub returns-in-Ok-try_get_matches_from : goal.returns-in-Ok-try_get_matches_from
 returns-in-Ok-try_get_matches_from c =

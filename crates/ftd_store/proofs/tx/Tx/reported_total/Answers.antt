@@ -3,7 +3,7 @@ use Rattle.ftd_sql.proofs.Meanings.{shows_reported}
 use Rattle.ftd_days.specs.Calendar.{quarter_year, quarter_number}
 use Rattle.ftd_store.proofs.Same.{reported_is}
 use Rattle.ftd_store.proofs.Telling.{finds}
-use Rattle.ftd_store.proofs.tx.Tx.reported.Goals as goal
+use Rattle.ftd_store.proofs.tx.Tx.reported_total.Goals as goal
 
 pub returns : goal.returns
 returns g c = record {

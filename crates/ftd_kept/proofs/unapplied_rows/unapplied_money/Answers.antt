@@ -7,7 +7,7 @@ use Rattle.ftd_entries.proofs.Serving.{served_looked}
 use Rattle.ftd_kept.specs.Unapplied.{is_unapplied_before}
 use Rattle.ftd_kept.proofs.UnappliedKnown.{unapplied_answered, unapplied_refused}
 use Rattle.ftd_kept.proofs.UnappliedOrdered.{unapplied_in_order}
-use Rattle.ftd_kept.proofs.unapplied_rows.unapplied.Goals as goal
+use Rattle.ftd_kept.proofs.unapplied_rows.unapplied_money.Goals as goal
 
 pub returns-in-Err : goal.returns-in-Err
 returns-in-Err g c = record {

@@ -4,7 +4,7 @@ use Rattle.ftd_store.specs.Kept.{IsNamedAccount}
 use Rattle.ftd_sql.specs.declared.TableName.TheVariants.{Accounts}
 use Rattle.ftd_store.proofs.SameKept.{named_account_is}
 use Rattle.ftd_store.proofs.Telling.{lists}
-use Rattle.ftd_store.proofs.tx.Tx.enrolled.Goals as goal
+use Rattle.ftd_store.proofs.tx.Tx.all_accounts.Goals as goal
 
 pub returns : goal.returns
 returns g c = record {

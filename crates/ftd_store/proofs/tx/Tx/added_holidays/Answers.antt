@@ -4,7 +4,7 @@ use Rattle.ftd_sql.specs.declared.TableName.TheVariants.{AddedHolidays}
 use Rattle.ftd_sql.proofs.Meanings.{added_holidays_in_order}
 use Rattle.ftd_store.proofs.Same.{holiday_is}
 use Rattle.ftd_store.proofs.Telling.{lists}
-use Rattle.ftd_store.proofs.tx.Tx.added.Goals as goal
+use Rattle.ftd_store.proofs.tx.Tx.added_holidays.Goals as goal
 
 pub returns : goal.returns
 returns g c = record {

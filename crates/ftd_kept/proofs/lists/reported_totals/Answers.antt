@@ -8,14 +8,14 @@ use Rattle.ftd_machine.specs.Requests.{kept_of_checks}
 use Rattle.ftd_machine.specs.History.{form_of}
 use Rattle.ftd_machine.specs.State.{entries_of}
 use Rattle.ftd_machine.specs.declared.kept.KeptRows.TheVariants as rows
-use Rattle.ftd_machine.specs.declared.requests.Kept.TheVariants as kept
+use Rattle.ftd_machine.specs.declared.requests.KeptList.TheVariants as kept
 use Rattle.ftd_machine.specs.declared.requests.Question.TheVariants as questions
 use Rattle.ftd_machine.specs.declared.requests.Request.TheVariants.{Question}
 use Rattle.ftd_machine.proofs.Deciding.{decided, passed}
 use Rattle.ftd_entries.specs.Known.{KnowsAccount}
 use Rattle.ftd_entries.proofs.Serving.{served_looked}
 use Rattle.ftd_kept.specs.Kept.{KnowsTotals}
-use Rattle.ftd_kept.proofs.lists.reported.Goals as goal
+use Rattle.ftd_kept.proofs.lists.reported_totals.Goals as goal
 
 pub returns-in-Err : goal.returns-in-Err
 returns-in-Err g c = record {

@@ -6,7 +6,7 @@ use Rattle.ftd_machine.specs.declared.requests.Request.TheVariants.{Question}
 use Rattle.ftd_machine.specs.Told.{owed_answer}
 use Rattle.ftd_entries.proofs.Serving.{served_looked}
 use Rattle.ftd_questions.proofs.AgendaTold.{owed_answered, owed_refused}
-use Rattle.ftd_questions.proofs.agendas.owed.Goals as goal
+use Rattle.ftd_questions.proofs.agendas.owed_list.Goals as goal
 
 pub returns-in-Err : goal.returns-in-Err
 returns-in-Err g c =

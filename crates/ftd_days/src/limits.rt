@@ -1,0 +1,21 @@
+//! The first and the last day and year that there are.
+
+/// 31 December 2199, the last day of the calendar, in days after 1 January 1900.
+pub const LAST_DAY: u32 = 109_572;
+
+/// The same day, in days since 1970-01-01.
+pub const LAST_NUMBER: i32 = 84_005;
+
+/// The first year that may be opened, and whose holidays may be given.
+pub const FIRST_YEAR: u32 = 2001;
+
+/// The last year that may be opened, and whose total may be reported: its deposits, and its return,
+/// are due in the next year at the latest.
+pub const LAST_OPEN_YEAR: u32 = 2098;
+
+/// The last year whose holidays may be given. Days on which something is paid or asked for lie in
+/// it or before.
+pub const LAST_YEAR: u32 = 2099;
+
+/// The most holidays of a year, those that were given and those that were added.
+pub const MOST_HOLIDAYS: usize = 60;
