@@ -4,10 +4,10 @@ use Rattle.std.specs.Prelude.{Bool, true, false, if◌then◌else◌, List, []}
 use Rattle.std.specs.Prelude.{◌∷◌, ◌++◌, Option}
 use Rattle.std.specs.Io.KnownBytes.{Appends}
 use Rattle.std.specs.List.{flat_map, sum_by}
+use Rattle.ftd_rules.specs.declared.TheConstants.{AMOUNTS_END}
 use Rattle.ftd_ports.specs.Writing.{WritesPrefix}
 use Rattle.ftd_rules.specs.declared.verdict.DueRow.{DueRow}
 use Rattle.ftd_rules.specs.Verdicts.{amount_of}
-use Rattle.ftd_machine.specs.Limits.{amounts_end}
 use Rattle.ftd_answers.specs.DueLists.{due_head, due_line, due_text}
 use Rattle.ftd_answers.specs.declared.due_texts.DueText.{DueText}
 
@@ -58,7 +58,7 @@ pub record TakesRow {W : Type 0} (taken : W → Option (List ℕ)) (before : Due
   pub writes : Appends (taken (writer_of before)) (taken (writer_of after))
       (waiting before ++ due_line row)
   pub counts : total_of after ≡ total_of before + amount_of row
-  pub below : total_of after < amounts_end
+  pub below : total_of after < AMOUNTS_END
   pub goes : (start : Option (List ℕ)) (account : List ℕ) (quarter as_of : ℕ) (rows : List DueRow)
       → HasRows taken start account quarter as_of rows before
       → HasRows taken start account quarter as_of (rows ++ row ∷ []) after
@@ -71,7 +71,7 @@ pub record BreaksIn {W : Type 0} (taken : W → Option (List ℕ)) (failed : W �
   pub part : WritesPrefix start (taken (writer_of after))
       (due_text account quarter as_of (rows ++ row ∷ others))
   pub reason : (failed (writer_of after) ≡ true)
-      ⊎ (amounts_end ≤ sum_by amount_of rows + amount_of row)
+      ⊎ (AMOUNTS_END ≤ sum_by amount_of rows + amount_of row)
 
 -- the text failed at a row: a prefix of what is written for it was written, since the writer
 -- failed, since the total would come to the bound, or since the text had failed before, and then
@@ -82,7 +82,7 @@ pub record BreaksAt {W : Type 0} (taken : W → Option (List ℕ)) (failed : W �
   pub writes : WritesPrefix (taken (writer_of before)) (taken (writer_of after))
       (waiting before ++ due_line row)
   pub reason : (has_failed before ≡ true)
-      ⊎ ((failed (writer_of after) ≡ true) ⊎ (amounts_end ≤ total_of before + amount_of row))
+      ⊎ ((failed (writer_of after) ≡ true) ⊎ (AMOUNTS_END ≤ total_of before + amount_of row))
   pub stays : has_failed before ≡ true → after ≡ before
   pub breaks : (start : Option (List ℕ)) (account : List ℕ) (quarter as_of : ℕ)
       (rows others : List DueRow)

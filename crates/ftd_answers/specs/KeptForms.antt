@@ -1,13 +1,13 @@
 -- What is kept, as CSV and as JSON.
 use Rattle.std.specs.Prelude.{ℕ, List, [], ◌∷◌, codes, Some, if◌then◌else◌}
 use Rattle.ftd_days.specs.Text.{quarter_text}
-use Rattle.ftd_days.specs.declared.cents.Cents.{Cents}
+use Rattle.ftd_machine.specs.declared.entries.ReturnPeriod.{ReturnPeriod}
+use Rattle.ftd_machine.specs.declared.entries.ReturnPeriod.TheVariants.{Quarter, Year}
 use Rattle.ftd_machine.specs.declared.kept.KeptAccount.{KeptAccount}
 use Rattle.ftd_machine.specs.declared.kept.KeptHoliday.{KeptHoliday}
 use Rattle.ftd_machine.specs.declared.kept.KeptPayment.{KeptPayment}
 use Rattle.ftd_machine.specs.declared.kept.KeptRun.{KeptRun}
 use Rattle.ftd_machine.specs.declared.kept.KeptTotal.{KeptTotal}
-use Rattle.ftd_machine.specs.declared.kept.KeptTotal.TheVariants.{OfQuarter, OfYear}
 use Rattle.ftd_machine.specs.declared.kept.KeptYear.{KeptYear}
 use Rattle.ftd_machine.specs.declared.kept.KeptRows.{KeptRows}
 use Rattle.ftd_machine.specs.declared.kept.KeptRows.TheVariants as rows
@@ -48,28 +48,24 @@ year_fields account =
 
 -- a reported total of an account: its quarter or year, the amount that is in force, and the amount
 -- that was first reported
-abbrev pub period_name : KeptTotal → List ℕ
-period_name (OfQuarter quarter cents first) = codes "quarter"
-period_name (OfYear year cents first) = codes "year"
+abbrev pub period_name : ReturnPeriod → List ℕ
+period_name (Quarter quarter) = codes "quarter"
+period_name (Year year) = codes "year"
 
-abbrev pub period_of : KeptTotal → Shown
-period_of (OfQuarter quarter cents first) = as_text (quarter_text quarter)
-period_of (OfYear year cents first) = as_number year
-
-abbrev pub in_force : KeptTotal → Cents
-in_force (OfQuarter quarter cents first) = cents
-in_force (OfYear year cents first) = cents
-
-abbrev pub first_reported : KeptTotal → Cents
-first_reported (OfQuarter quarter cents first) = first
-first_reported (OfYear year cents first) = first
+abbrev pub period_shown : ReturnPeriod → Shown
+period_shown (Quarter quarter) = as_text (quarter_text quarter)
+period_shown (Year year) = as_number year
 
 abbrev pub total_fields : List ℕ → List (Field KeptTotal)
 total_fields account =
     account_field (λ x. account)
-    ∷ record { column = Some (codes "period"); name = period_name; value = period_of }
-    ∷ both (codes "amount") (λ x. as_cents (in_force x).0)
-    ∷ json_alone (codes "first") (λ x. as_cents (first_reported x).0) ∷ []
+    ∷ record {
+      column = Some (codes "period");
+      name = λ x. period_name x.period;
+      value = λ x. period_shown x.period;
+    }
+    ∷ both (codes "amount") (λ x. as_cents x.cents.0)
+    ∷ json_alone (codes "first") (λ x. as_cents x.first.0) ∷ []
 
 -- a day that was given or added as a holiday: whether it was added to its year, and whether it is a
 -- holiday

@@ -8,12 +8,13 @@ use Rattle.ftd_rules.specs.declared.Kind.{Kind}
 use Rattle.ftd_rules.specs.declared.Kind.TheVariants.{Monthly, Semiweekly}
 use Rattle.ftd_rules.specs.declared.YearLine.{YearLine}
 use Rattle.ftd_machine.specs.declared.entries.Account.{Account}
+use Rattle.ftd_machine.specs.declared.entries.ReturnPeriod.{ReturnPeriod}
+use Rattle.ftd_machine.specs.declared.entries.ReturnPeriod.TheVariants.{Quarter, Year}
 use Rattle.ftd_machine.specs.declared.kept.KeptAccount.{KeptAccount}
 use Rattle.ftd_machine.specs.declared.kept.KeptHoliday.{KeptHoliday}
 use Rattle.ftd_machine.specs.declared.kept.KeptPayment.{KeptPayment}
 use Rattle.ftd_machine.specs.declared.kept.KeptRun.{KeptRun}
 use Rattle.ftd_machine.specs.declared.kept.KeptTotal.{KeptTotal}
-use Rattle.ftd_machine.specs.declared.kept.KeptTotal.TheVariants.{OfQuarter, OfYear}
 use Rattle.ftd_machine.specs.declared.kept.KeptYear.{KeptYear}
 use Rattle.ftd_machine.specs.declared.kept.KeptRows.{KeptRows}
 use Rattle.ftd_machine.specs.declared.kept.KeptRows.TheVariants as rows
@@ -92,9 +93,12 @@ unfoldable pub total_text : List ℕ → ℕ → ℕ → List ℕ
 total_text period cents first =
     join_with_byte space (period ∷ amount_in cents ∷ []) ++ first_end cents first
 
+abbrev pub period_text : ReturnPeriod → List ℕ
+period_text (Quarter quarter) = quarter_text quarter
+period_text (Year year) = decimal year
+
 abbrev pub total_line : KeptTotal → List ℕ
-total_line (OfQuarter quarter cents first) = total_text (quarter_text quarter) cents.0 first.0
-total_line (OfYear year cents first) = total_text (decimal year) cents.0 first.0
+total_line x = total_text (period_text x.period) x.cents.0 x.first.0
 
 -- a day that was given or added as a holiday: whether it was added to its year, and whether it was
 -- taken back

@@ -1,6 +1,7 @@
 -- The text of Schedule B: the liability of a quarter by day, by month and together.
 use Rattle.std.specs.Prelude.{ℕ, ◌+◌, ◌*◌, ◌/◌, ◌%◌, ◌==◌, List, [], ◌∷◌, ◌++◌, codes, filter}
 use Rattle.std.specs.List.{sum_by, flat_map}
+use Rattle.ftd_days.specs.declared.limits.TheConstants.{FIRST_CALENDAR_YEAR}
 use Rattle.ftd_days.specs.Calendar.{month_of}
 use Rattle.ftd_days.specs.Digits.{two_digits, four_digits}
 use Rattle.ftd_days.specs.Text.{day_text, hyphen, quarter_text}
@@ -23,7 +24,8 @@ day_line sum = b_line (day_text sum.day) sum.cents.0
 
 -- a month as YYYY-MM; it goes by its number of months after January 1900
 abbrev pub month_text : ℕ → List ℕ
-month_text month = four_digits (1900 + month / 12) ++ (hyphen ∷ two_digits (month % 12 + 1))
+month_text month =
+    four_digits (FIRST_CALENDAR_YEAR + month / 12) ++ (hyphen ∷ two_digits (month % 12 + 1))
 
 -- the sums of the days of a month
 abbrev pub of_month : ℕ → List DaySum → List DaySum

@@ -8,7 +8,9 @@ ghost use Rattle.ftd_answers.specs.KeptForms.{year_fields};
 use crate::Value;
 use crate::forms::FieldName::{Both, Each, Json};
 use crate::forms::{FieldName, Row, RowForm, write_csv, write_fields, write_json};
-use ftd_machine::{KeptAccount, KeptHoliday, KeptPayment, KeptRows, KeptRun, KeptTotal, KeptYear};
+use ftd_machine::{
+    KeptAccount, KeptHoliday, KeptPayment, KeptRows, KeptRun, KeptTotal, KeptYear, ReturnPeriod,
+};
 use ftd_ports::{Target, WriteFault};
 
 static ACCOUNT: [FieldName; 4] = [
@@ -105,26 +107,22 @@ impl Row for KeptTotal {
         form: RowForm,
         target: &mut W,
     ) -> Result<(), WriteFault> {
-        match self {
-            KeptTotal::OfQuarter {
-                quarter,
-                cents,
-                first,
-            } => {
+        match self.period {
+            ReturnPeriod::Quarter(quarter) => {
                 let fields = [
                     (QUARTER_TOTAL[0], Value::Text(account)),
-                    (QUARTER_TOTAL[1], Value::Quarter(*quarter)),
-                    (QUARTER_TOTAL[2], Value::Amount(*cents)),
-                    (QUARTER_TOTAL[3], Value::Amount(*first)),
+                    (QUARTER_TOTAL[1], Value::Quarter(quarter)),
+                    (QUARTER_TOTAL[2], Value::Amount(self.cents)),
+                    (QUARTER_TOTAL[3], Value::Amount(self.first)),
                 ];
                 write_fields(form, false, &fields, target)
             }
-            KeptTotal::OfYear { year, cents, first } => {
+            ReturnPeriod::Year(year) => {
                 let fields = [
                     (YEAR_TOTAL[0], Value::Text(account)),
-                    (YEAR_TOTAL[1], Value::Number(*year)),
-                    (YEAR_TOTAL[2], Value::Amount(*cents)),
-                    (YEAR_TOTAL[3], Value::Amount(*first)),
+                    (YEAR_TOTAL[1], Value::Number(year)),
+                    (YEAR_TOTAL[2], Value::Amount(self.cents)),
+                    (YEAR_TOTAL[3], Value::Amount(self.first)),
                 ];
                 write_fields(form, false, &fields, target)
             }

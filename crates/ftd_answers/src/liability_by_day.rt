@@ -7,7 +7,7 @@ ghost use Rattle.ftd_rules.specs.Liability.{cents_of};
 ghost use Rattle.ftd_answers.specs.SchedulesB.{b_head, b_line, b_text, day_line, month_lines};
 
 use crate::values::{amount_column, day_bytes, label_column, month_bytes, quarter_bytes};
-use ftd_days::{Cents, Quarter};
+use ftd_days::{Cents, MONTHS, Quarter};
 use ftd_ports::{Target, WriteFault, write_pieces};
 use ftd_rules::{AMOUNTS_END, DaySum};
 use itoa::Buffer;
@@ -58,7 +58,7 @@ fn write_head<W: Target>(account: &str, quarter: Quarter, target: &mut W) -> Res
 
 /// Writes the lines of a month, which goes by its number of months after January 1900.
 fn write_month<W: Target>(month: u32, sums: &[DaySum], target: &mut W) -> Result<(), WriteFault>
-    requires month { month < 3600 }
+    requires month { month < MONTHS }
     requires amounts { sum_by cents_of sums.now < AMOUNTS_END }
     ensures { Writes result (W.taken target.old) (W.taken target.new)
         (W.failed target.new) (month_lines sums.now month) }

@@ -14,7 +14,9 @@ use crate::agendas::spaces_after;
 use crate::values::amount_column;
 use crate::{RowFormat, amount_text, day_bytes, form_bytes, quarter_bytes};
 use ftd_days::{Cents, Day};
-use ftd_machine::{Account, KeptAccount, KeptHoliday, KeptPayment, KeptRun, KeptTotal, KeptYear};
+use ftd_machine::{
+    Account, KeptAccount, KeptHoliday, KeptPayment, KeptRun, KeptTotal, KeptYear, ReturnPeriod,
+};
 use ftd_ports::{Target, WriteFault, write_all, write_pieces};
 use ftd_rules::{Kind, YearLine};
 use itoa::Buffer;
@@ -200,15 +202,13 @@ impl RowFormat<KeptTotal> for Columns {
     ghost row_text = { λ columns row. total_line row };
 
     fn write_row<W: Target>(&self, row: &KeptTotal, target: &mut W) -> Result<(), WriteFault> {
-        match row {
-            KeptTotal::OfQuarter {
-                quarter,
-                cents,
-                first,
-            } => write_total(&quarter_bytes(*quarter), *cents, *first, target),
-            KeptTotal::OfYear { year, cents, first } => {
+        match row.period {
+            ReturnPeriod::Quarter(quarter) => {
+                write_total(&quarter_bytes(quarter), row.cents, row.first, target)
+            }
+            ReturnPeriod::Year(year) => {
                 let mut digits = Buffer::new();
-                write_total(digits.format(*year).as_bytes(), *cents, *first, target)
+                write_total(digits.format(year).as_bytes(), row.cents, row.first, target)
             }
         }
     }

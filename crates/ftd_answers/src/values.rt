@@ -9,7 +9,7 @@ ghost use Rattle.ftd_rules.specs.Verdicts.{verdict_text};
 ghost use Rattle.ftd_answers.specs.Columns.{left_in, amount_in};
 ghost use Rattle.ftd_answers.specs.SchedulesB.{month_text};
 
-use ftd_days::{Cents, Day, Quarter};
+use ftd_days::{Cents, Day, FIRST_CALENDAR_YEAR, MONTHS, Quarter};
 use ftd_rules::{Rule, Verdict};
 use itoa::Buffer;
 
@@ -91,10 +91,10 @@ pub fn day_bytes(day: Day) -> [u8; 10]
 
 /// A month as 2024-05. It goes by its number of months after January 1900.
 pub fn month_bytes(month: u32) -> [u8; 7]
-    requires { month < 3600 }
+    requires { month < MONTHS }
     ensures { result ≡ month_text month }
 {
-    let (year, in_year) = (1900 + month / 12, month % 12 + 1);
+    let (year, in_year) = (FIRST_CALENDAR_YEAR + month / 12, month % 12 + 1);
     [
         last_digit(year / 1000),
         last_digit(year / 100),

@@ -19,7 +19,7 @@ use Rattle.ftd_rules.proofs.Lines.{line_equal}
 use Rattle.ftd_rules.proofs.Covering.{line_is}
 use Rattle.ftd_buckets.specs.declared.state.Next.{Next}
 use Rattle.ftd_buckets.specs.declared.state.Next.TheVariants.{Done, Need}
-use Rattle.ftd_buckets.specs.declared.state.Settled.{Settled}
+use Rattle.ftd_buckets.specs.declared.state.Progress.{Progress}
 use Rattle.ftd_buckets.specs.declared.state.Stage.TheVariants as stage
 use Rattle.ftd_buckets.specs.Histories.{History}
 use Rattle.ftd_buckets.specs.Patches.{AreRows, AreSumsOf}
@@ -46,7 +46,7 @@ holds_more form m n (Need repair window) l h = (let h1 = h.1 in (h.0, omega arit
 
 -- a later year, from its own sums
 pub year_settled : (form : Form) → (day : ℕ) (holidays : List ℕ) (before after : History)
-    (s t : Settled) (turned : Bool) (sums : List DaySum) (new : YearLine) (added : List Obligation)
+    (s t : Progress) (turned : Bool) (sums : List DaySum) (new : YearLine) (added : List Obligation)
     → All (λ d. d < holidays_end) (holidays_of s.holidays.now)
     → (st : Stands form day holidays before after (repairing s (stage.Year turned)))
     → AreSumsOf after s.asked sums

@@ -18,7 +18,7 @@ use Rattle.ftd_rules.proofs.Schedules.{line_one}
 use Rattle.ftd_rules.proofs.Covering.{line_is}
 use Rattle.ftd_buckets.specs.declared.Window.{Window}
 use Rattle.ftd_buckets.specs.declared.Patch.{Patch}
-use Rattle.ftd_buckets.specs.declared.state.Settled.{Settled}
+use Rattle.ftd_buckets.specs.declared.state.Progress.{Progress}
 use Rattle.ftd_buckets.specs.declared.state.Stage.TheVariants as stage
 use Rattle.ftd_buckets.specs.Histories.{History, IsChange}
 use Rattle.ftd_buckets.specs.Windows.{IsNeeded}
@@ -73,7 +73,8 @@ kept_later form day g h holidays known c old m n a b whole l k o past owed =
       ],
     )) owed
 
-pub kept_done : (form : Form) → (day : ℕ) (holidays : List ℕ) (before after : History) (s : Settled)
+pub kept_done : (form : Form) → (day : ℕ) (holidays : List ℕ) (before after : History)
+    (s : Progress)
     (sums : List DaySum) (added : List Obligation) (patch : Patch)
     → All (λ d. d < holidays_end) (holidays_of s.holidays.now)
     → (st : Stands form day holidays before after (repairing s stage.Period))

@@ -15,7 +15,7 @@ use Rattle.ftd_rules.proofs.Schedules.{years_top}
 use Rattle.ftd_rules.proofs.Covering.{line_is}
 use Rattle.ftd_buckets.specs.declared.Window.{Window}
 use Rattle.ftd_buckets.specs.declared.Patch.{Patch}
-use Rattle.ftd_buckets.specs.declared.state.Settled.{Settled}
+use Rattle.ftd_buckets.specs.declared.state.Progress.{Progress}
 use Rattle.ftd_buckets.specs.declared.state.Stage.TheVariants as stage
 use Rattle.ftd_buckets.specs.Histories.{History, AreLast, TurnsWithin}
 use Rattle.ftd_buckets.specs.Windows.{IsNeeded, IsNext}
@@ -68,7 +68,7 @@ pub same_line : (lines : List YearLine) (x y : YearLine) (xs ys : List YearLine)
 same_line lines x y xs ys g h = let e : ◌≡◌ {A = List YearLine} (x ∷ xs) (y ∷ ys) = sym g ∙ h in cc
 
 pub onward_last : (form : Form) → (day : ℕ) (holidays : List ℕ) (before after : History)
-    (s : Settled) (new : YearLine) (patch : Patch)
+    (s : Progress) (new : YearLine) (patch : Patch)
     → (k : IsSettledYear form day holidays before after s new)
     → IsAtYearEnd s.lines.now s.asked.to new.year
     → drop 1 s.lines.now ≡ [] → patch.from ≡ s.from → patch.to ≡ s.asked.to
@@ -90,7 +90,7 @@ onward_last form day holidays before after s new patch k r none from to rows yea
 
 -- the lines that are left, where a year goes on to the next
 ahead_of : (form : Form) → (day : ℕ) (holidays : List ℕ) (before after : History)
-    (s : Settled) (new : YearLine) (later : List YearLine) (next : YearLine)
+    (s : Progress) (new : YearLine) (later : List YearLine) (next : YearLine)
     → (k : IsSettledYear form day holidays before after s new)
     → (r : IsAtYearEnd s.lines.now s.asked.to new.year) → later ≡ drop 1 s.lines.now
     → later ≡ next ∷ drop 1 later
@@ -104,7 +104,7 @@ ahead_of form day holidays before after s new later next k r back e =
     (line, subst (λ (z : List YearLine). AreLast before z) are k.common.last)
 
 pub onward_done : (form : Form) → (day : ℕ) (holidays : List ℕ) (before after : History)
-    (s : Settled) (new : YearLine) (patch : Patch) (later : List YearLine) (next : YearLine)
+    (s : Progress) (new : YearLine) (patch : Patch) (later : List YearLine) (next : YearLine)
     (opens : Kind)
     → (k : IsSettledYear form day holidays before after s new)
     → IsAtYearEnd s.lines.now s.asked.to new.year → later ≡ drop 1 s.lines.now
@@ -127,7 +127,7 @@ onward_done form day holidays before after s new patch later next opens k r back
     same) from to rows years
 
 pub onward_next : (form : Form) → (day : ℕ) (holidays : List ℕ) (before after : History)
-    (s : Settled) (new : YearLine) (later : List YearLine) (next : YearLine) (opens : Kind)
+    (s : Progress) (new : YearLine) (later : List YearLine) (next : YearLine) (opens : Kind)
     (q : Repairing)
     → (k : IsSettledYear form day holidays before after s new)
     → IsAtYearEnd s.lines.now s.asked.to new.year → later ≡ drop 1 s.lines.now

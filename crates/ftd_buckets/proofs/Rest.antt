@@ -23,7 +23,7 @@ use Rattle.ftd_rules.proofs.Schedules.{year_facts, year_divides, month_in_year, 
 use Rattle.ftd_rules.proofs.Schedules.{from_turn, from_none}
 use Rattle.ftd_rules.proofs.Turning.{month_total}
 use Rattle.ftd_buckets.specs.declared.Window.{Window}
-use Rattle.ftd_buckets.specs.declared.state.Settled.{Settled}
+use Rattle.ftd_buckets.specs.declared.state.Progress.{Progress}
 use Rattle.ftd_buckets.specs.declared.state.Stage.TheVariants as stage
 use Rattle.ftd_buckets.specs.Histories.{History, TurnsWithin}
 use Rattle.ftd_buckets.specs.Patches.{AreRows, AreSumsOf}
@@ -208,7 +208,8 @@ turn_found M F line first now top h begins from late agree found =
 
 -- once the rest is fed, the year is settled
 pub rest_settled : (form : Form) → (day : ℕ) (holidays : List ℕ) (before after : History)
-    (s t : Settled) (first : ℕ) (turn now : Option ℕ) (sums : List DaySum) (added : List Obligation)
+    (s t : Progress) (first : ℕ) (turn now : Option ℕ) (sums : List DaySum)
+    (added : List Obligation)
     → All (λ d. d < holidays_end) (holidays_of s.holidays.now)
     → (st : Stands form day holidays before after (repairing s (stage.Rest first turn)))
     → AreSumsOf after s.asked sums

@@ -29,7 +29,7 @@ use Rattle.ftd_rules.proofs.Schedules.{from_none}
 use Rattle.ftd_rules.proofs.Pieces.{IsYear, by_first_day}
 use Rattle.ftd_rules.proofs.Covering.{line_is}
 use Rattle.ftd_buckets.specs.declared.Window.{Window}
-use Rattle.ftd_buckets.specs.declared.state.Settled.{Settled}
+use Rattle.ftd_buckets.specs.declared.state.Progress.{Progress}
 use Rattle.ftd_buckets.specs.declared.state.Stage.TheVariants as stage
 use Rattle.ftd_buckets.specs.declared.turn.TurnNow.TheVariants as now
 use Rattle.ftd_buckets.specs.Histories.{History, TurnsWithin}
@@ -66,13 +66,13 @@ whole_period form line a b y p =
           (omega arith, z.1, z.2, omega arith, z.4);
     }
 
-pub ready_whole : (s : Settled) → (h : IsReady (repairing s stage.Period))
+pub ready_whole : (s : Progress) → (h : IsReady (repairing s stage.Period))
     → IsWhole s.form h.line s.asked.from s.asked.to
 ready_whole s h =
     let l = ready_line (repairing s stage.Period) h in
     whole_period s.form h.line s.asked.from s.asked.to (line_year h.line l.0 l.1 l.2).0 h.at.0
 
-pub read_whole : (s : Settled) → (h : IsReady (repairing s stage.Period)) → (d : YearLine)
+pub read_whole : (s : Progress) → (h : IsReady (repairing s stage.Period)) → (d : YearLine)
     → IsWhole s.form (slice_index_or s.lines.now 0 d) s.asked.from s.asked.to
 read_whole s h d = subst (λ (z : YearLine). IsWhole s.form z s.asked.from s.asked.to)
     (sym (line_read h d)) (ready_whole s h)
@@ -136,14 +136,14 @@ whole_last form line a b turn h e =
     record { from = h.from; to = h.to; some = omega arith; divides = subst D (sym e) h.divides }
 
 -- so it is of the period that a state asks for, where its year turns otherwise
-pub record Turning (s : Settled) (turn : Option ℕ) (line : YearLine) : Type 0 where
+pub record Turning (s : Progress) (turn : Option ℕ) (line : YearLine) : Type 0 where
   pub split : Split s.form line s.asked.from s.asked.to turn
   pub cut : Cut s.form line s.asked.from s.asked.to turn
   pub early : 7 ≤ s.asked.from
   pub some : s.asked.from ≤ s.asked.to
   pub late : s.asked.to < years_end
 
-pub turning : (s : Settled) (turn : Option ℕ) → (h : IsReady (repairing s stage.Period))
+pub turning : (s : Progress) (turn : Option ℕ) → (h : IsReady (repairing s stage.Period))
     → ((line : YearLine) (later : List YearLine) → s.lines.now ≡ line ∷ later
     → IsWithin line s.asked.from s.asked.to (now.Changed turn))
     → Turning s turn h.line
@@ -238,7 +238,7 @@ rest_ready form line a b first turn asked sums h k pos on e from to rise =
     }
 
 -- the lines of the day's year after the change, where the turn that was told is the turn
-turn_told : (form : Form) → (day : ℕ) (before after : History) (holidays : List ℕ) (s : Settled)
+turn_told : (form : Form) → (day : ℕ) (before after : History) (holidays : List ℕ) (s : Progress)
     (turn : Option ℕ) → (st : Stands form day holidays before after (repairing s stage.Period))
     → st.new.turn ≡ turn → st.new ≡ with_turn st.old turn
 turn_told form day before after holidays s turn st e =
@@ -249,7 +249,7 @@ turn_told form day before after holidays s turn st e =
 
 -- the period ends the year: the year is settled
 pub last_settled : (form : Form) → (day : ℕ) (holidays : List ℕ) (before after : History)
-    (s t : Settled) (turn : Option ℕ) (sums : List DaySum) (added : List Obligation)
+    (s t : Progress) (turn : Option ℕ) (sums : List DaySum) (added : List Obligation)
     → All (λ d. d < holidays_end) (holidays_of s.holidays.now)
     → (st : Stands form day holidays before after (repairing s stage.Period))
     → AreSumsOf after s.asked sums
@@ -326,7 +326,7 @@ none_here form h holidays due L p a rows owed = record {
 
 -- the year goes on after the period: its rest is the next window
 pub turned_next : (form : Form) → (day : ℕ) (holidays : List ℕ) (before after : History)
-    (s : Settled) (turn : Option ℕ) (sums : List DaySum) (added : List Obligation) (first : ℕ)
+    (s : Progress) (turn : Option ℕ) (sums : List DaySum) (added : List Obligation) (first : ℕ)
     (r : Repairing)
     → All (λ d. d < holidays_end) (holidays_of s.holidays.now)
     → (st : Stands form day holidays before after (repairing s stage.Period))

@@ -17,7 +17,7 @@ use Rattle.ftd_rules.proofs.Earlier.{counterpart}
 use Rattle.ftd_rules.proofs.Stated.{cases_kind}
 use Rattle.ftd_buckets.specs.declared.Window.{Window}
 use Rattle.ftd_buckets.specs.declared.Patch.{Patch}
-use Rattle.ftd_buckets.specs.declared.state.Settled.{Settled}
+use Rattle.ftd_buckets.specs.declared.state.Progress.{Progress}
 use Rattle.ftd_buckets.specs.declared.state.Stage.TheVariants as stage
 use Rattle.ftd_buckets.specs.Histories.{History, IsChange, AreLast}
 use Rattle.ftd_buckets.specs.Windows.{IsYearOf, IsNeeded, IsNext}
@@ -42,7 +42,7 @@ same_after_back day g h year c same line has later =
 
 -- nothing more differs: the patch is done
 pub settled_done : (form : Form) → (day : ℕ) (holidays : List ℕ) (before after : History)
-    (s : Settled) (asked : Window) (new : YearLine) (patch : Patch)
+    (s : Progress) (asked : Window) (new : YearLine) (patch : Patch)
     → (k : IsSettledYear form day holidays before after s new)
     → asked.to ≡ year_last k.old.year → SameAfter before after k.old.year
     → patch.from ≡ s.from → patch.to ≡ asked.to → patch.rows ≡ s.rows.items
@@ -178,7 +178,7 @@ same_next day before after c old new next rest opens n l m to same = λ line has
 
 -- where it does not, it is the next window
 pub settled_next : (form : Form) → (day : ℕ) (holidays : List ℕ) (before after : History)
-    (s : Settled) (asked : Window) (new next : YearLine) (rest : List YearLine) (opens : Kind)
+    (s : Progress) (asked : Window) (new next : YearLine) (rest : List YearLine) (opens : Kind)
     (r : Repairing)
     → (k : IsSettledYear form day holidays before after s new) → asked.to ≡ year_last k.old.year
     → NextYear before after k.old new next rest opens → (opens ≡ next.opening → ⊥)

@@ -13,7 +13,7 @@ use Rattle.ftd_rules.specs.Liability.{SumsRise}
 use Rattle.ftd_rules.specs.Private.Walk.{period_first}
 use Rattle.ftd_buckets.specs.declared.Window.{Window}
 use Rattle.ftd_days.specs.Holidays.{holidays_of}
-use Rattle.ftd_buckets.specs.declared.state.Settled.{Settled}
+use Rattle.ftd_buckets.specs.declared.state.Progress.{Progress}
 use Rattle.ftd_buckets.specs.declared.state.Stage.{Stage}
 use Rattle.ftd_buckets.specs.declared.state.Stage.TheVariants as stage
 use Rattle.ftd_buckets.specs.Histories.{TurnsWithin}
@@ -66,7 +66,7 @@ pub record Repairing : Type 0 where
   pub held : List DaySum
   pub stage : Stage
 
-abbrev pub repairing : Settled → Stage → Repairing
+abbrev pub repairing : Progress → Stage → Repairing
 repairing s stage = record {
   form = s.form;
   lines = s.lines.now;

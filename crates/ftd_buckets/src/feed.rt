@@ -20,7 +20,7 @@ ghost use Rattle.ftd_buckets.specs.declared.state.Stage.TheVariants as stage;
 ghost use Rattle.ftd_buckets.specs.declared.state.Next.TheVariants as Next;
 
 use crate::rows::add_rows;
-use crate::state::{Next, Repair, Settled, Stage};
+use crate::state::{Next, Progress, Repair, Stage};
 use crate::turn::{TurnNow, turn_from, turn_now};
 use crate::{Patch, Window};
 use ftd_days::Day;
@@ -30,7 +30,7 @@ use ftd_rules::year::{add_year, days_within, first_day, first_semiweekly_day, la
 use ftd_rules::{AMOUNTS_END, DaySum, Kind, Obligations, YearLine, YearLines};
 use std::alloc::AllocError;
 
-impl<'a> Settled<'a> {
+impl<'a> Progress<'a> {
     /// Takes the sums of the changed day's deposit period.
     pub fn feed_period(mut self, sums: &[DaySum]) -> Result<Next<'a>, AllocError>
         requires ready { IsReady (repairing self stage.Period) }
@@ -235,7 +235,7 @@ impl<'a> Settled<'a> {
         ensures rows { result.rows ≡ self.entry.rows.items }
         ensures years { result.years ≡ self.entry.years.items }
     {
-        let Settled {
+        let Progress {
             form: _,
             lines: _,
             holidays: _,

@@ -12,7 +12,7 @@ ghost use Rattle.ftd_buckets.specs.Patches.{AreSumsOf, IsPatch};
 ghost use Rattle.ftd_buckets.specs.Standing.{Stands, IfDone, IfNeed, amount_held};
 
 use crate::Window;
-use crate::state::{Next, Repair, Settled, Stage};
+use crate::state::{Next, Progress, Repair, Stage};
 use ftd_days::{Day, Holidays};
 use ftd_rules::period::period_of;
 use ftd_rules::year::first_semiweekly_day;
@@ -49,7 +49,7 @@ impl<'a> Repair<'a> {
         let period = period_of(form, first_semiweekly_day(&line), day);
         let from = period.first;
         let to = period.last;
-        let settled = Settled {
+        let settled = Progress {
             form,
             from,
             asked: Window { from, to },

@@ -23,7 +23,7 @@ pub enum Stage {
 
 /// What is settled so far.
 #[derive(Drop)]
-pub struct Settled<'a> {
+pub struct Progress<'a> {
     pub(crate) form: Form,
     /// The lines before the change, from the year that is being read on.
     pub(crate) lines: &'a [YearLine],
@@ -42,7 +42,7 @@ pub struct Settled<'a> {
 /// A repair of an account's obligations, which asks for one window of day sums after the other.
 #[derive(Drop)]
 pub struct Repair<'a> {
-    pub(crate) settled: Settled<'a>,
+    pub(crate) settled: Progress<'a>,
     pub(crate) stage: Stage,
 }
 

@@ -5,7 +5,7 @@ ghost use Rattle.ftd_days.specs.Calendar.{last_day};
 ghost use Rattle.ftd_c.specs.Calls.{form_of, rule_of};
 ghost use Rattle.ftd_c.specs.Faults.{code_of};
 
-use ftd_days::{CalendarFault, Day, LAST_DAY};
+use ftd_days::{CalendarFault, DAYS_TO_1970, Day, LAST_DAY};
 use ftd_rules::{Form, Rule};
 use std::alloc::AllocFailed;
 
@@ -60,7 +60,7 @@ pub fn number_of(day: Result<Day, CallFault>) -> u32
         (λ fault. result ≡ code_of fault) }
 {
     match day {
-        Ok(day) => (day.number() + 25_567) as u32,
+        Ok(day) => (day.number() + DAYS_TO_1970) as u32,
         Err(CallFault::OutOfRange) => u32::MAX,
         Err(CallFault::Memory) => u32::MAX - 1,
     }

@@ -7,6 +7,7 @@ use Rattle.std.specs.List.{prefix_len}
 use Rattle.std.specs.Char.{is_ascii_digit}
 use Rattle.std.specs.Str.{all_ascii_digits, bytes_eq}
 use Rattle.std.specs.Str.Parse.{without_leading_plus}
+use Rattle.ftd_days.specs.declared.limits.TheConstants.{QUARTERS}
 use Rattle.ftd_days.specs.Calendar.{last_day}
 use Rattle.ftd_days.specs.Digits.{number_of}
 use Rattle.ftd_days.specs.Text.{day_text, quarter_text}
@@ -23,7 +24,7 @@ day_of text = printed_among day_text (last_day + 1) 0 text
 
 -- the quarter that the text spells: of all quarters the one that is printed so
 unfoldable pub spelled_quarter : List ℕ → Option ℕ
-spelled_quarter text = printed_among quarter_text 1200 0 text
+spelled_quarter text = printed_among quarter_text QUARTERS 0 text
 
 -- the cents after the dollars: none, or a point and one digit of tenths, or a point and two digits
 abbrev pub fraction_of : List ℕ → Option ℕ

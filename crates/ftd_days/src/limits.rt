@@ -1,4 +1,19 @@
-//! The first and the last day and year that there are.
+//! The first and the last day, month, quarter and year that there are.
+
+/// The first year of the calendar. Days, months and quarters are counted from its beginning.
+pub const FIRST_CALENDAR_YEAR: u32 = 1900;
+
+/// The last year of the calendar.
+pub const LAST_CALENDAR_YEAR: u32 = 2199;
+
+/// How many quarters the calendar has.
+pub const QUARTERS: u32 = 1200;
+
+/// How many months the calendar has.
+pub const MONTHS: u32 = 3600;
+
+/// How many days 1970-01-01 is after the first day of the calendar, 1 January 1900.
+pub const DAYS_TO_1970: i32 = 25_567;
 
 /// 31 December 2199, the last day of the calendar, in days after 1 January 1900.
 pub const LAST_DAY: u32 = 109_572;

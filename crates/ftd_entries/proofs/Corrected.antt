@@ -25,6 +25,7 @@ use Rattle.ftd_store.specs.Corrections.{ListsCorrections, ListsYearCorrections}
 use Rattle.ftd_store.specs.Finds.{FindsReported, FindsReportedYear, FindsInForce, FindsForm}
 use Rattle.ftd_machine.specs.declared.entries.Account.{Account}
 use Rattle.ftd_machine.specs.declared.entries.Beginning.{Beginning}
+use Rattle.ftd_machine.specs.declared.entries.ReturnPeriod.TheVariants.{Quarter, Year}
 use Rattle.ftd_machine.specs.State.{State, Entry, Move, entries_of, is_of, has_key, content_of}
 use Rattle.ftd_machine.specs.State.{all_at, latest, moves_of, moves_in, is_move_of, beginning_of}
 use Rattle.ftd_machine.specs.State.{account_in_force, enrolled_in}
@@ -33,7 +34,7 @@ use Rattle.ftd_machine.specs.Step.{is_under}
 use Rattle.ftd_entries.specs.Standing.{StandsFor, with_earlier, correction_entry}
 use Rattle.ftd_entries.specs.Standing.{year_correction_entry, account_correction_entry}
 use Rattle.ftd_entries.specs.Known.{KnowsAccount, KnowsCorrections, joined}
-use Rattle.ftd_entries.specs.Known.{KnowsYearCorrections, KnowsFigure, KnowsYearFigure}
+use Rattle.ftd_entries.specs.Known.{KnowsYearCorrections, KnowsFigure}
 use Rattle.ftd_entries.specs.Known.{cents_of, amounts_of, begins_at, beginnings_of}
 use Rattle.ftd_entries.proofs.CalendarRows.{whole, whole_rises, year_cell}
 use Rattle.ftd_entries.proofs.Corrections.{Picks, rows_are, numbered_rows, numbered_listed}
@@ -95,7 +96,7 @@ module _ (name : List ℕ) (quarter : ℕ) where
 
   pub figure_known : {A : Type 0} (reported : Option Cents) (found : Vec Correction A) (t : Tables)
       → FindsReported name quarter reported t → ListsCorrections name quarter found t
-      → KnowsFigure name quarter
+      → KnowsFigure name (Quarter quarter)
       (option_map (λ first. latest first (amounts_of found.items)) reported) t
   figure_known reported found t finds lists s keeps =
       ap (λ o. option_map (λ first. latest first (own_at name quarter s.corrected)) o)
@@ -138,7 +139,7 @@ module _ (name : List ℕ) (year : ℕ) where
   pub year_figure_known : {A : Type 0} (reported : Option Cents) (found : Vec Correction A)
       (t : Tables)
       → FindsReportedYear name year reported t → ListsYearCorrections name year found t
-      → KnowsYearFigure name year
+      → KnowsFigure name (Year year)
       (option_map (λ first. latest first (amounts_of found.items)) reported) t
   year_figure_known reported found t finds lists s keeps =
       ap (λ o. option_map (λ first. latest first (own_at name year s.corrected_years)) o)

@@ -6,11 +6,12 @@ use Rattle.ftd_rules.specs.declared.Form.TheVariants.{F941, F943}
 use Rattle.ftd_sql.specs.Standing.{Tables}
 use Rattle.ftd_machine.specs.State.{entries_of, figure_at}
 use Rattle.ftd_machine.specs.Asking.{preceding}
+use Rattle.ftd_machine.specs.declared.entries.ReturnPeriod.TheVariants.{Quarter}
 use Rattle.ftd_entries.specs.Known.{KnowsFigure}
 use Rattle.ftd_entries.specs.Returns.{KnowsPreceding}
 
 pub on_941 : (name : List ℕ) (form : Form) (quarter before : ℕ) (found : Option Cents) (t : Tables)
-    → form ≡ F941 → before ≡ quarter - 1 → KnowsFigure name before found t
+    → form ≡ F941 → before ≡ quarter - 1 → KnowsFigure name (Quarter before) found t
     → KnowsPreceding name form quarter found t
 on_941 name form quarter before found t is same knows s stands =
     let own = entries_of s name in

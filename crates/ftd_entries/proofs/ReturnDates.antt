@@ -1,5 +1,5 @@
 -- The dates of a return and of a makeup, by holidays that agree in the year and the next.
-use Rattle.std.proofs.Common.{◌≡◌, ℕ, ◌+◌, ◌-◌, ◌<◌, ◌≤◌, true, not, ◌&&◌, List, sym}
+use Rattle.std.proofs.Common.{◌≡◌, ℕ, ◌+◌, ◌<◌, ◌≤◌, true, not, ◌&&◌, List, sym}
 use Rattle.std.proofs.Common.{ap, ◌∙◌, subst, arith}
 use Rattle.std.specs.Prelude.{min, nat_lt}
 use Rattle.ftd_days.specs.Business.{is_business, is_holiday, IsOnOrAfter}

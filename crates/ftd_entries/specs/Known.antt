@@ -13,8 +13,8 @@ use Rattle.ftd_machine.specs.declared.entries.Account.{Account}
 use Rattle.ftd_machine.specs.declared.entries.Beginning.{Beginning}
 use Rattle.ftd_machine.specs.declared.entries.ReturnPeriod.{ReturnPeriod}
 use Rattle.ftd_machine.specs.declared.entries.ReturnPeriod.TheVariants.{Quarter, Year}
-use Rattle.ftd_machine.specs.State.{State, entries_of, is_open, enrolled_in, moves_in, all_at}
-use Rattle.ftd_machine.specs.State.{figure_at}
+use Rattle.ftd_machine.specs.State.{State, entries_of, is_open, enrolled_in, all_at}
+use Rattle.ftd_machine.specs.State.{in_force_at}
 use Rattle.ftd_entries.specs.Standing.{StandsFor, KeepsFigures}
 
 -- the account that has these rows, if it has both
@@ -91,14 +91,8 @@ KnowsYearCorrections name year found t =
     (s : State) → KeepsFigures t s → amounts_of found
     ≡ all_at year (entries_of s name).corrected_years
 
--- the figure in force of the account's quarter, or of its year, if one was reported, in each state
--- of which the tables have the figures and their corrections
-abbrev pub KnowsFigure : List ℕ → ℕ → Option Cents → Tables → Type 0
-KnowsFigure name quarter found t =
-    (s : State) → KeepsFigures t s
-    → figure_at quarter (entries_of s name).reported (entries_of s name).corrected ≡ found
-
-abbrev pub KnowsYearFigure : List ℕ → ℕ → Option Cents → Tables → Type 0
-KnowsYearFigure name year found t =
-    (s : State) → KeepsFigures t s
-    → figure_at year (entries_of s name).reported_years (entries_of s name).corrected_years ≡ found
+-- the account's total of the period that is in force, if one was reported, in each state of which
+-- the tables have the totals and their corrections
+abbrev pub KnowsFigure : List ℕ → ReturnPeriod → Option Cents → Tables → Type 0
+KnowsFigure name period found t =
+    (s : State) → KeepsFigures t s → in_force_at (entries_of s name) period ≡ found

@@ -4,39 +4,35 @@
 ghost use Rattle.std.specs.Prelude.{◌≡◌, option_map};
 ghost use Rattle.ftd_store.specs.Frame.{Reads};
 ghost use Rattle.ftd_machine.specs.State.{latest};
-ghost use Rattle.ftd_entries.specs.Known.{KnowsFigure, KnowsYearFigure, amounts_of};
+ghost use Rattle.ftd_entries.specs.Known.{KnowsFigure, amounts_of};
 
-use ftd_days::{Cents, Quarter};
+use ftd_days::Cents;
+use ftd_machine::ReturnPeriod;
 use ftd_store::{Correction, StoreFault, Tx};
 use sqlite::Alter;
 use std::alloc::Global;
 
-/// The total in force of a quarter, in cents, if the account reported one.
+/// The total in force of a period, in cents, if the account reported one.
 pub fn figure<S: Alter>(
     tx: &mut Tx<'_, S>,
     alloc: Global,
     name: &str,
-    quarter: Quarter,
+    period: ReturnPeriod,
 ) -> Result<Option<Cents>, StoreFault>
-    ensures call { Reads S.Store tx.old tx.new result (KnowsFigure name.now quarter) }
+    ensures call { Reads S.Store tx.old tx.new result (KnowsFigure name.now period) }
 {
-    let reported = tx.reported_total(name, quarter)?;
-    let corrections = tx.corrections(alloc, name, quarter)?;
-    Ok(in_force(reported, &corrections))
-}
-
-/// The total in force of a year, in cents, if the account reported one.
-pub fn year_figure<S: Alter>(
-    tx: &mut Tx<'_, S>,
-    alloc: Global,
-    name: &str,
-    year: u32,
-) -> Result<Option<Cents>, StoreFault>
-    ensures call { Reads S.Store tx.old tx.new result (KnowsYearFigure name.now year) }
-{
-    let reported = tx.reported_year_total(name, year)?;
-    let corrections = tx.year_corrections(alloc, name, year)?;
-    Ok(in_force(reported, &corrections))
+    match period {
+        ReturnPeriod::Quarter(quarter) => {
+            let reported = tx.reported_total(name, quarter)?;
+            let corrections = tx.corrections(alloc, name, quarter)?;
+            Ok(in_force(reported, &corrections))
+        }
+        ReturnPeriod::Year(year) => {
+            let reported = tx.reported_year_total(name, year)?;
+            let corrections = tx.year_corrections(alloc, name, year)?;
+            Ok(in_force(reported, &corrections))
+        }
+    }
 }
 
 /// What is in force of a total, with these corrections of it.

@@ -22,7 +22,7 @@ pub use crate::account_list::all_accounts;
 pub use crate::accounts::{enrol, enrolment, known_account};
 pub use crate::beginnings::{correct_account, is_unused};
 pub use crate::calendars::take_calendar;
-pub use crate::in_force::{figure, year_figure};
+pub use crate::in_force::figure;
 pub use crate::lookbacks::lookback_total;
 pub use crate::open_years::open_year;
 pub use crate::payments::{pay, void_payment};

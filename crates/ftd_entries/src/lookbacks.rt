@@ -5,10 +5,10 @@ ghost use Rattle.ftd_store.specs.Frame.{Reads};
 ghost use Rattle.ftd_entries.specs.Totals.{IsTotalOn941, IsTotalOn943, KnowsTotal, KnowsTotalOn941};
 ghost use Rattle.ftd_entries.specs.Totals.{KnowsTotalOn943, figures_found, figure_before};
 
-use crate::in_force::{figure, year_figure};
+use crate::in_force::figure;
 use ftd_days::{Cents, Day, FIRST_YEAR, LAST_OPEN_YEAR, Quarter};
-use ftd_machine::{Account, Refusal};
-use ftd_rules::{Form, MOST_CENTS, lookback, lookback_943};
+use ftd_machine::{Account, Refusal, ReturnPeriod};
+use ftd_rules::{Form, MOST_CENTS, lookback, lookback_943, lookback_start};
 use ftd_store::{StoreFault, Tx};
 use sqlite::Alter;
 use std::alloc::{AllocError, Global};
@@ -45,14 +45,26 @@ fn total_941<S: Alter>(
     requires to { year ≤ LAST_OPEN_YEAR }
     ensures call { Reads S.Store tx.old tx.new result (KnowsTotalOn941 name.now start year) }
 {
-    let quarters = 4 * (year - 2 - 1900) + 2;
+    let quarters = lookback_start(year);
     let (third, fourth) = (Quarter::at(quarters), Quarter::at(quarters + 1));
     let (first, second) = (Quarter::at(quarters + 2), Quarter::at(quarters + 3));
     let found = [
-        (third, figure(tx, alloc, name, third)?),
-        (fourth, figure(tx, alloc, name, fourth)?),
-        (first, figure(tx, alloc, name, first)?),
-        (second, figure(tx, alloc, name, second)?),
+        (
+            third,
+            figure(tx, alloc, name, ReturnPeriod::Quarter(third))?,
+        ),
+        (
+            fourth,
+            figure(tx, alloc, name, ReturnPeriod::Quarter(fourth))?,
+        ),
+        (
+            first,
+            figure(tx, alloc, name, ReturnPeriod::Quarter(first))?,
+        ),
+        (
+            second,
+            figure(tx, alloc, name, ReturnPeriod::Quarter(second))?,
+        ),
     ];
     match total_of_found(alloc, &found, start, year) {
         Ok(total) => Ok(total),
@@ -109,7 +121,7 @@ fn total_943<S: Alter>(
     requires to { year ≤ LAST_OPEN_YEAR }
     ensures call { Reads S.Store tx.old tx.new result (KnowsTotalOn943 name.now start year) }
 {
-    let found = year_figure(tx, alloc, name, year - 2)?;
+    let found = figure(tx, alloc, name, ReturnPeriod::Year(year - 2))?;
     Ok(total_of_year(found, start, year))
 }
 

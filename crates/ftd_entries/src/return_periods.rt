@@ -11,6 +11,7 @@ ghost use Rattle.ftd_entries.specs.Returns.{KnowsPeriod};
 
 use crate::figure;
 use ftd_days::{Cents, Day, FIRST_YEAR, Quarter};
+use ftd_machine::ReturnPeriod;
 use ftd_rules::{AMOUNTS_END, DaySum, Form, Payment, period};
 use ftd_store::{StoreFault, Tx};
 use sqlite::Alter;
@@ -108,7 +109,8 @@ fn preceding<S: Alter>(
     requires { FIRST_YEAR ≤ quarter_year quarter }
     ensures call { Reads S.Store tx.old tx.new result (KnowsPreceding name.now form quarter) }
 {
-    let found = figure(tx, alloc, name, Quarter::at(quarter.quarters() - 1))?;
+    let before = ReturnPeriod::Quarter(Quarter::at(quarter.quarters() - 1));
+    let found = figure(tx, alloc, name, before)?;
     match form {
         Form::F941 => Ok(found),
         Form::F943 => Ok(None),

@@ -5,7 +5,7 @@ use Rattle.ftd_entries.proofs.InOrder.{in_order, two_before}
 use Rattle.ftd_rules.specs.Lists.{are_in_order}
 use Rattle.ftd_machine.specs.Agenda.{EachToLater}
 use Rattle.ftd_machine.specs.Kept.{IsRunBefore, IsTotalBefore}
-use Rattle.ftd_machine.specs.Kept.{period_of}
+use Rattle.ftd_machine.specs.Kept.{period_number}
 use Rattle.ftd_machine.specs.declared.kept.KeptRun.{KeptRun}
 use Rattle.ftd_machine.specs.declared.kept.KeptTotal.{KeptTotal}
 use Rattle.ftd_machine.proofs.KeptOne.{payday_of, run_number}
@@ -22,5 +22,6 @@ runs_in_order xs e =
 pub totals_in_order : (xs : List KeptTotal) → are_in_order is_total_before xs ≡ true
     → EachToLater IsTotalBefore xs
 totals_in_order xs e =
-    in_order is_total_before IsTotalBefore (λ x y e. ltb-true (period_of x) (period_of y) e)
+    in_order is_total_before IsTotalBefore (λ x y e. ltb-true (period_number x.period)
+    (period_number y.period) e)
     (λ x y z g h. omega arith) xs e

@@ -17,15 +17,20 @@ use Rattle.ftd_store.specs.declared.kept_cells.QuarterTotal.{QuarterTotal}
 use Rattle.ftd_store.specs.declared.kept_cells.YearTotal.{YearTotal}
 use Rattle.ftd_store.specs.Kept.{IsQuarterTotal, IsYearTotal}
 use Rattle.ftd_machine.specs.Sound.{IsSound}
-use Rattle.ftd_machine.specs.State.{State, Entry, entries_of, kept_at}
+use Rattle.ftd_machine.specs.State.{State, Entry, entries_of, kept_at, reported_at}
 use Rattle.ftd_machine.specs.declared.kept.KeptTotal.{KeptTotal}
-use Rattle.ftd_machine.specs.declared.kept.KeptTotal.TheVariants.{OfQuarter, OfYear}
+use Rattle.ftd_machine.specs.declared.entries.ReturnPeriod.{ReturnPeriod}
+use Rattle.ftd_machine.specs.declared.entries.ReturnPeriod.TheVariants.{Quarter, Year}
+use Rattle.ftd_machine.specs.Requests.{form_for}
 use Rattle.ftd_machine.proofs.Adding.{own_name}
 use Rattle.ftd_entries.specs.Standing.{StandsFor, quarter_entry, year_entry}
 use Rattle.ftd_entries.proofs.Kept.{same_nat, cents_is, quarter_is}
 use Rattle.ftd_entries.proofs.ListedRows.{value_passes, passing_value}
 use Rattle.ftd_kept.specs.Kept.{kept_quarter, kept_year, IsFirstTotal}
 use Rattle.ftd_machine.proofs.Entered.{is_kept, of_kept}
+
+abbrev total_at : ReturnPeriod → Cents → Cents → KeptTotal
+total_at period cents first = record { period = period; cents = cents; first = first }
 
 -- the rows of an account's totals
 abbrev quarter_row : List ℕ → QuarterTotal → ReportedQuarterRow
@@ -94,24 +99,25 @@ module _ (name : List ℕ) (t : Tables) (s : State) (stands : StandsFor t s) (so
 
     pub quarters_are : (x : KeptTotal) → Has (map kept_quarter found) x
         ↔ IsFirstTotal F941 (entries_of s name) x
-    quarters_are (OfQuarter quarter cents first) = (
+    quarters_are x = (
       (λ has.
-          (let from = has_mapped kept_quarter found (OfQuarter quarter cents first) has in
-          subst (IsFirstTotal F941 (entries_of s name)) (sym from.2)
-          (refl, quarter_in from.0 from.1))),
-      (λ is. subst (λ c. Has (map kept_quarter found) (OfQuarter quarter c first)) (sym is.0)
-          (mapped_has kept_quarter found _ (quarter_there quarter first is.1))),
-    )
-    quarters_are (OfYear year cents first) = (
-      (λ has.
-          (let from = has_mapped kept_quarter found (OfYear year cents first) has in
-          absurd (never from.0 from.2))),
-      (λ is. absurd is),
+          (let from = has_mapped kept_quarter found x has in
+          subst (IsFirstTotal F941 (entries_of s name)) (sym from.2) (record {
+            of_form = refl;
+            same = refl;
+            first_reported = quarter_in from.0 from.1;
+          }))),
+      (λ is. back x.period x.cents x.first is.of_form is.same is.first_reported),
     )
       where
-        never : (x : QuarterTotal)
-            → OfYear year cents first ≡ OfQuarter x.quarter x.cents x.cents → ⊥
-        never x e = absurd cc
+        back : (period : ReturnPeriod) (cents first : Cents) → form_for period ≡ F941
+            → cents ≡ first → reported_at (entries_of s name) period ≡ Some first
+            → Has (map kept_quarter found) (total_at period cents first)
+        back (Quarter quarter) cents first of same was =
+            subst (λ c. Has (map kept_quarter found) (total_at (Quarter quarter) c first))
+            (sym same)
+            (mapped_has kept_quarter found _ (quarter_there quarter first was))
+        back (Year year) cents first of same was = absurd cc
 
   -- ---- years
 
@@ -157,20 +163,21 @@ module _ (name : List ℕ) (t : Tables) (s : State) (stands : StandsFor t s) (so
 
     pub years_are : (x : KeptTotal) → Has (map kept_year found) x
         ↔ IsFirstTotal F943 (entries_of s name) x
-    years_are (OfYear year cents first) = (
+    years_are x = (
       (λ has.
-          (let from = has_mapped kept_year found (OfYear year cents first) has in
-          subst (IsFirstTotal F943 (entries_of s name)) (sym from.2)
-          (refl, year_in from.0 from.1))),
-      (λ is. subst (λ c. Has (map kept_year found) (OfYear year c first)) (sym is.0)
-          (mapped_has kept_year found _ (year_there year first is.1))),
-    )
-    years_are (OfQuarter quarter cents first) = (
-      (λ has.
-          (let from = has_mapped kept_year found (OfQuarter quarter cents first) has in
-          absurd (never from.0 from.2))),
-      (λ is. absurd is),
+          (let from = has_mapped kept_year found x has in
+          subst (IsFirstTotal F943 (entries_of s name)) (sym from.2) (record {
+            of_form = refl;
+            same = refl;
+            first_reported = year_in from.0 from.1;
+          }))),
+      (λ is. back x.period x.cents x.first is.of_form is.same is.first_reported),
     )
       where
-        never : (x : YearTotal) → OfQuarter quarter cents first ≡ OfYear x.year x.cents x.cents → ⊥
-        never x e = absurd cc
+        back : (period : ReturnPeriod) (cents first : Cents) → form_for period ≡ F943
+            → cents ≡ first → reported_at (entries_of s name) period ≡ Some first
+            → Has (map kept_year found) (total_at period cents first)
+        back (Year year) cents first of same was =
+            subst (λ c. Has (map kept_year found) (total_at (Year year) c first)) (sym same)
+            (mapped_has kept_year found _ (year_there year first was))
+        back (Quarter quarter) cents first of same was = absurd cc

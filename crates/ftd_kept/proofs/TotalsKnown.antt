@@ -7,15 +7,13 @@ use Rattle.ftd_store.proofs.Replaced.{all_taken}
 use Rattle.std.specs.Prelude.{IfOk, unwrap_or}
 use Rattle.ftd_days.specs.declared.cents.Cents.{Cents}
 use Rattle.ftd_rules.specs.declared.Form.{Form}
-use Rattle.ftd_rules.specs.declared.Form.TheVariants.{F941, F943}
 use Rattle.ftd_rules.specs.Lists.{Has}
 use Rattle.ftd_sql.specs.Standing.{Tables}
 use Rattle.ftd_store.specs.Lists.{Pairs}
 use Rattle.ftd_machine.specs.Agenda.{EachToLater}
-use Rattle.ftd_machine.specs.Kept.{IsTotal, IsTotalBefore, period_of}
+use Rattle.ftd_machine.specs.Kept.{IsTotal, IsTotalBefore, period_number}
 use Rattle.ftd_machine.specs.Sound.{IsSound}
 use Rattle.ftd_machine.specs.State.{State, entries_of}
-use Rattle.ftd_machine.specs.declared.kept.KeptTotal.TheVariants.{OfQuarter, OfYear}
 use Rattle.ftd_entries.specs.Standing.{StandsFor}
 use Rattle.ftd_machine.specs.declared.kept.KeptTotal.{KeptTotal}
 use Rattle.ftd_kept.specs.Kept.{KnowsTotals, KnowsFirstTotals, IsFirstTotal, IsInForce}
@@ -41,9 +39,8 @@ first_told {form = form} {found = found} name rows t is done told rise same are 
 -- ---- as they are in force
 
 same_period : (name : List ℕ) (t : Tables) (first x : KeptTotal) → IsInForce name t first x
-    → period_of x ≡ period_of first
-same_period name t (OfQuarter quarter cents was) x is = ap period_of is.1
-same_period name t (OfYear year cents was) x is = ap period_of is.1
+    → period_number x.period ≡ period_number first.period
+same_period name t first x is = ap (λ (z : KeptTotal). period_number z.period) is.1
 
 in_force_rise : (name : List ℕ) (t : Tables) (firsts xs : List KeptTotal)
     → Pairs (IsInForce name t) firsts xs → EachToLater IsTotalBefore firsts
@@ -59,33 +56,26 @@ same_cents a b is = ap (λ o. unwrap_or o a) is
 module _ (name : List ℕ) (t : Tables) (s : State) (stands : StandsFor t s) where
   total_is : (form : Form) (first x : KeptTotal) → IsInForce name t first x
       → IsFirstTotal form (entries_of s name) first → IsTotal form (entries_of s name) x
-  total_is F941 (OfQuarter quarter before first) x is was =
-      subst (IsTotal F941 (entries_of s name)) (sym is.1)
-      (is.2 s stands.entries.figures, was.1)
-  total_is F941 (OfYear year before first) x is was = absurd was
-  total_is F943 (OfQuarter quarter before first) x is was = absurd was
-  total_is F943 (OfYear year before first) x is was =
-      subst (IsTotal F943 (entries_of s name)) (sym is.1)
-      (is.2 s stands.entries.figures, was.1)
+  total_is form first x is was = subst (IsTotal form (entries_of s name)) (sym is.1) (record {
+    of_form = was.of_form;
+    in_force = is.2 s stands.entries.figures;
+    first_reported = was.first_reported;
+  })
 
   module _ (firsts xs : List KeptTotal) (pairs : Pairs (IsInForce name t) firsts xs) where
     is_there : (form : Form)
         → ((first : KeptTotal) → IsFirstTotal form (entries_of s name) first → Has firsts first)
         → (x : KeptTotal) → IsTotal form (entries_of s name) x → Has xs x
-    is_there F941 there (OfQuarter quarter cents first) is =
-        let to = paired_to (IsInForce name t) firsts xs (OfQuarter quarter first first) pairs
-        (there (OfQuarter quarter first first) (refl, is.1)) in
-        let amount : to.2.0 ≡ cents =
-        same_cents to.2.0 cents (sym (to.2.2 s stands.entries.figures) ∙ is.0) in
-        subst (Has xs) (to.2.1 ∙ ap (λ c. OfQuarter quarter c first) amount) to.1
-    is_there F941 there (OfYear year cents first) is = absurd is
-    is_there F943 there (OfQuarter quarter cents first) is = absurd is
-    is_there F943 there (OfYear year cents first) is =
-        let to = paired_to (IsInForce name t) firsts xs (OfYear year first first) pairs
-        (there (OfYear year first first) (refl, is.1)) in
-        let amount : to.2.0 ≡ cents =
-        same_cents to.2.0 cents (sym (to.2.2 s stands.entries.figures) ∙ is.0) in
-        subst (Has xs) (to.2.1 ∙ ap (λ c. OfYear year c first) amount) to.1
+    is_there form there x is =
+        let first : KeptTotal = record x { cents = x.first } in
+        let to = paired_to (IsInForce name t) firsts xs first pairs (there first (record {
+          of_form = is.of_form;
+          same = refl;
+          first_reported = is.first_reported;
+        })) in
+        let amount : to.2.0 ≡ x.cents =
+        same_cents to.2.0 x.cents (sym (to.2.2 s stands.entries.figures) ∙ is.in_force) in
+        subst (Has xs) (to.2.1 ∙ ap (λ c. record first { cents = c }) amount) to.1
 
 pub knows_totals : (name : List ℕ) (form : Form) (t : Tables) (firsts xs : List KeptTotal)
     → KnowsFirstTotals name form firsts t → Pairs (IsInForce name t) firsts xs

@@ -18,18 +18,19 @@ use Rattle.ftd_store.specs.declared.kept_cells.QuarterTotal.{QuarterTotal}
 use Rattle.ftd_store.specs.declared.kept_cells.YearTotal.{YearTotal}
 use Rattle.ftd_machine.specs.Agenda.{EachToLater}
 use Rattle.ftd_machine.specs.Kept.{IsTotal, IsTotalBefore}
-use Rattle.ftd_machine.specs.Kept.{period_of, as_first_reported, line_of}
+use Rattle.ftd_machine.specs.Kept.{period_number, as_first_reported, line_of}
 use Rattle.ftd_machine.specs.Kept.{IsAdded, IsDayBefore, kept_days}
 use Rattle.ftd_machine.specs.History.{AreLinesOf, HasLookback}
+use Rattle.ftd_machine.specs.Requests.{form_for}
 use Rattle.ftd_machine.specs.Sound.{IsSound}
-use Rattle.ftd_machine.specs.State.{State, Entries, entries_of, kept_at, calendar_at}
+use Rattle.ftd_machine.specs.State.{State, Entries, entries_of, calendar_at, reported_at}
 use Rattle.ftd_machine.specs.declared.entries.Account.{Account}
 use Rattle.ftd_machine.specs.declared.kept.KeptHoliday.{KeptHoliday}
 use Rattle.ftd_machine.specs.declared.kept.KeptRun.{KeptRun}
 use Rattle.ftd_machine.specs.declared.kept.KeptTotal.{KeptTotal}
-use Rattle.ftd_machine.specs.declared.kept.KeptTotal.TheVariants.{OfQuarter, OfYear}
+use Rattle.ftd_machine.specs.declared.entries.ReturnPeriod.TheVariants.{Quarter, Year}
 use Rattle.ftd_machine.specs.declared.kept.KeptYear.{KeptYear}
-use Rattle.ftd_entries.specs.Known.{KnowsFigure, KnowsYearFigure}
+use Rattle.ftd_entries.specs.Known.{KnowsFigure}
 use Rattle.ftd_entries.specs.Standing.{StandsFor}
 
 -- ---- open years
@@ -94,22 +95,23 @@ KnowsYears name account rows t =
 
 -- a total as it was first reported; what is in force is not read yet, and stands as the same
 abbrev pub kept_quarter : QuarterTotal → KeptTotal
-kept_quarter row = OfQuarter row.quarter row.cents row.cents
+kept_quarter row = record {
+  period = Quarter row.quarter;
+  cents = row.cents;
+  first = row.cents;
+}
 
 abbrev pub kept_year : YearTotal → KeptTotal
-kept_year row = OfYear row.year row.cents row.cents
+kept_year row = record { period = Year row.year; cents = row.cents; first = row.cents }
 
 abbrev pub is_total_before : KeptTotal → KeptTotal → Bool
-is_total_before a b = nat_lt (period_of a) (period_of b)
+is_total_before a b = nat_lt (period_number a.period) (period_number b.period)
 
 -- the account on the form reported it so first, and what is in force stands as the same
-abbrev pub IsFirstTotal : Form → Entries → KeptTotal → Type 0
-IsFirstTotal F941 own (OfQuarter quarter cents first) =
-    (cents ≡ first) × (kept_at quarter own.reported ≡ Some first)
-IsFirstTotal F941 own (OfYear year cents first) = ⊥
-IsFirstTotal F943 own (OfQuarter quarter cents first) = ⊥
-IsFirstTotal F943 own (OfYear year cents first) =
-    (cents ≡ first) × (kept_at year own.reported_years ≡ Some first)
+pub record IsFirstTotal (form : Form) (own : Entries) (x : KeptTotal) : Type 0 where
+  pub of_form : form_for x.period ≡ form
+  pub same : x.cents ≡ x.first
+  pub first_reported : reported_at own x.period ≡ Some x.first
 
 pub record KnowsFirstTotals (name : List ℕ) (form : Form) (rows : List KeptTotal) (t : Tables)
     : Type 0 where
@@ -119,10 +121,9 @@ pub record KnowsFirstTotals (name : List ℕ) (form : Form) (rows : List KeptTot
 
 -- the total of the account is told as it is in force, and as it was first reported
 abbrev pub IsInForce : List ℕ → Tables → KeptTotal → KeptTotal → Type 0
-IsInForce name t (OfQuarter quarter before first) x =
-    (cents : Cents) × (x ≡ OfQuarter quarter cents first) × KnowsFigure name quarter (Some cents) t
-IsInForce name t (OfYear year before first) x =
-    (cents : Cents) × (x ≡ OfYear year cents first) × KnowsYearFigure name year (Some cents) t
+IsInForce name t total x =
+    (cents : Cents) × (x ≡ record total { cents = cents })
+    × KnowsFigure name total.period (Some cents) t
 
 -- they are all totals of the account on the form, in each sound state for which the tables stand
 pub record KnowsTotals (name : List ℕ) (form : Form) (rows : List KeptTotal) (t : Tables)

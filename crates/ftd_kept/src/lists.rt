@@ -8,10 +8,10 @@ ghost use Rattle.ftd_entries.specs.Words.{Serves};
 ghost use Rattle.ftd_kept.specs.Kept.{IsInForce, KnowsFirstTotals, KnowsTotals};
 
 use crate::holiday_rows::all_holidays;
-use crate::rows::{add_total, told_quarters, told_runs, told_years};
+use crate::rows::{add_row, told_quarters, told_runs, told_years};
 use crate::year_rows::open_years;
 use ftd_days::Quarter;
-use ftd_entries::{all_accounts, figure, known_account, year_figure};
+use ftd_entries::{all_accounts, figure, known_account};
 use ftd_machine::{
     AccountName, Answer, Facts, KeptAccounts, KeptHolidays, KeptRows, KeptRuns, KeptTotal,
     KeptTotals, KeptYears, Refusal, Reply, holidays_check, kept_in_quarter_check, kept_of_check,
@@ -85,24 +85,14 @@ fn total_in_force<S: Alter>(
     ensures call { Reads S.Store tx.old tx.new result
         (λ told t. IsInForce name.now t total.now told) }
 {
-    match *total {
-        KeptTotal::OfQuarter { quarter, first, .. } => {
-            let Some(cents) = figure(tx, alloc, name, quarter)? else {
-                return tx.give_up(StoreFault::Failed);
-            };
-            Ok(KeptTotal::OfQuarter {
-                quarter,
-                cents,
-                first,
-            })
-        }
-        KeptTotal::OfYear { year, first, .. } => {
-            let Some(cents) = year_figure(tx, alloc, name, year)? else {
-                return tx.give_up(StoreFault::Failed);
-            };
-            Ok(KeptTotal::OfYear { year, cents, first })
-        }
-    }
+    let Some(cents) = figure(tx, alloc, name, total.period)? else {
+        return tx.give_up(StoreFault::Failed);
+    };
+    Ok(KeptTotal {
+        period: total.period,
+        cents,
+        first: total.first,
+    })
 }
 
 /// The totals that an account on this form reported, as they are in force and as they were first
@@ -120,7 +110,7 @@ fn totals<S: Alter>(
     let mut totals: Vec<KeptTotal> = Vec::new(alloc);
     for total in &first {
         let told = total_in_force(tx, alloc, name, total)?;
-        if let Err(fault) = add_total(told, &mut totals) {
+        if let Err(fault) = add_row(told, &mut totals) {
             return tx.give_up(fault);
         }
     }

@@ -3,19 +3,19 @@
 ghost use Rattle.std.specs.Prelude.{◌≡◌, ◌++◌, ◌∷◌, [], IfOk, OnOk, map};
 ghost use Rattle.ftd_rules.specs.Lists.{are_in_order};
 ghost use Rattle.ftd_machine.specs.Agenda.{EachToLater};
-ghost use Rattle.ftd_machine.specs.Kept.{IsTotalBefore, IsRunBefore, period_of};
+ghost use Rattle.ftd_machine.specs.Kept.{IsTotalBefore, IsRunBefore, period_number};
 ghost use Rattle.ftd_kept.specs.Kept.{kept_run, kept_quarter, kept_year, is_run_before};
 ghost use Rattle.ftd_kept.specs.Kept.{is_total_before};
 
-use ftd_machine::{KeptRun, KeptTotal};
+use ftd_machine::{KeptRun, KeptTotal, ReturnPeriod};
 use ftd_store::{NumberedRun, QuarterTotal, StoreFault, YearTotal};
 use std::alloc::{AllocError, Global};
 
-/// Adds a total. `Memory` where there was none.
-pub(crate) fn add_total(total: KeptTotal, totals: &mut Vec<KeptTotal>) -> Result<(), StoreFault>
-    ensures { OnOk result (totals.new.items ≡ totals.old.items ++ total ∷ []) }
+/// Adds a row. `Memory` where there was none.
+pub(crate) fn add_row<T: Drop>(row: T, rows: &mut Vec<T>) -> Result<(), StoreFault>
+    ensures { OnOk result (rows.new.items ≡ rows.old.items ++ row ∷ []) }
 {
-    totals.push(total)?;
+    rows.push(row)?;
     Ok(())
 }
 
@@ -80,16 +80,16 @@ pub(crate) fn told_runs(alloc: Global, rows: &[NumberedRun]) -> Result<Vec<KeptR
 fn is_total_before(total: &KeptTotal, next: &KeptTotal) -> bool
     ensures { result ≡ is_total_before total.now next.now }
 {
-    period_of(total) < period_of(next)
+    period_number(&total.period) < period_number(&next.period)
 }
 
-/// The number of a total's quarter after the first of 1900, or its year.
-fn period_of(total: &KeptTotal) -> u32
-    ensures { result ≡ period_of total.now }
+/// The number of quarters after the first of 1900, or the year.
+fn period_number(period: &ReturnPeriod) -> u32
+    ensures { result ≡ period_number period.now }
 {
-    match total {
-        KeptTotal::OfQuarter { quarter, .. } => quarter.quarters(),
-        KeptTotal::OfYear { year, .. } => *year,
+    match period {
+        ReturnPeriod::Quarter(quarter) => quarter.quarters(),
+        ReturnPeriod::Year(year) => *year,
     }
 }
 
@@ -127,8 +127,8 @@ pub(crate) fn told_quarters(
 {
     let mut totals = Vec::new(alloc);
     for row in rows {
-        totals.push(KeptTotal::OfQuarter {
-            quarter: row.quarter,
+        totals.push(KeptTotal {
+            period: ReturnPeriod::Quarter(row.quarter),
             cents: row.cents,
             first: row.cents,
         })?;
@@ -144,8 +144,8 @@ pub(crate) fn told_years(alloc: Global, rows: &[YearTotal]) -> Result<Vec<KeptTo
 {
     let mut totals = Vec::new(alloc);
     for row in rows {
-        totals.push(KeptTotal::OfYear {
-            year: row.year,
+        totals.push(KeptTotal {
+            period: ReturnPeriod::Year(row.year),
             cents: row.cents,
             first: row.cents,
         })?;

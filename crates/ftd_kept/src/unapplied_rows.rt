@@ -17,7 +17,7 @@ ghost use Rattle.ftd_kept.specs.Unapplied.{is_unapplied_before, obligation_row, 
 ghost use Rattle.ftd_kept.specs.Unapplied.{stray_row};
 
 use crate::payment_rows::held_by;
-use ftd_days::{Cents, Day};
+use ftd_days::{Cents, Day, MONTHS};
 use ftd_entries::{all_accounts, payments_of};
 use ftd_machine::{
     AccountName, Answer, Facts, Reply, UnappliedList, UnappliedRow, UnappliedRows, unapplied_check,
@@ -34,7 +34,7 @@ fn paid_for(obligation: &Obligation, payments: &[Payment]) -> Cents
     requires { sum_by payment_cents payments.now < AMOUNTS_END }
     ensures { result.0 ≡ paid_for payments.now obligation.now }
 {
-    let end = Day::last_of_month(3599);
+    let end = Day::last_of_month(MONTHS - 1);
     paid_by(payments, obligation.first, obligation.last, end, end)
 }
 
@@ -197,7 +197,7 @@ fn own_unapplied<S: Alter>(
 {
     let first = Day::first_of_month(0);
     let owed = tx.obligations(alloc, name, first, until)?;
-    let payments = payments_of(tx, alloc, name, first, Day::last_of_month(3599))?;
+    let payments = payments_of(tx, alloc, name, first, Day::last_of_month(MONTHS - 1))?;
     let found = tx.kept_payments(alloc, name, first, until)?;
     match own_rows(alloc, name, &owed, &payments, &found) {
         Ok(rows) => Ok(rows),

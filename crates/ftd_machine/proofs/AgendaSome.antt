@@ -1,6 +1,6 @@
 -- What is due over all accounts can be listed, wherever each account has lines.
 use Rattle.std.proofs.Common.{◌≡◌, ◌∙◌, inl, inr, refl, sym, ap, subst, ℕ, List, [], ◌∷◌}
-use Rattle.std.proofs.Common.{◌++◌, Option, None, Some, Ok}
+use Rattle.std.proofs.Common.{◌++◌, Option, None, Some}
 use Rattle.std.specs.Prelude.{◌↔◌}
 use Rattle.std.proofs.lemmas.Bool.{cases_lt}
 use Rattle.ftd_days.specs.Calendar.{quarter_of}

@@ -1,6 +1,6 @@
 -- A due list exists, wherever the account has lines.
 use Rattle.std.proofs.Common.{◌≡◌, ◌∙◌, ◌⊎◌, inl, inr, refl, sym, ap, subst, ℕ, ◌+◌, ◌-◌, ◌%◌, ◌≤◌}
-use Rattle.std.proofs.Common.{◌<◌, Bool, true, false, List, [], ◌∷◌, arith, Option, None, Some, Ok}
+use Rattle.std.proofs.Common.{◌<◌, Bool, true, false, List, [], ◌∷◌, arith, Option, None, Some}
 use Rattle.std.proofs.Common.{rules}
 use Rattle.std.specs.Prelude.{◌↔◌, min, IsTrue, IsSomeAnd}
 use Rattle.std.proofs.lemmas.Bool.{true≢false, false≢true, cases_Bool, cases_lt}

@@ -1,6 +1,6 @@
 -- The obligation that covers a day can be explained.
 use Rattle.std.proofs.Common.{◌≡◌, ◌∙◌, ◌⊎◌, inl, inr, refl, sym, ap, subst, ℕ, ◌+◌, ◌-◌, ◌<◌, ◌≤◌}
-use Rattle.std.proofs.Common.{List, [], ◌∷◌, Option, None, Some, Ok, arith, Bool, true, false, rules}
+use Rattle.std.proofs.Common.{List, [], ◌∷◌, Option, None, Some, arith, Bool, true, false, rules}
 use Rattle.std.specs.Prelude.{◌↔◌, zero, suc}
 use Rattle.std.proofs.lemmas.Bool.{true≢false, cases_Bool, cases_lt}
 use Rattle.std.proofs.lemmas.Bool.Decides.{eqb_tells}

@@ -20,23 +20,25 @@ use Rattle.ftd_rules.specs.Lists.{Has}
 use Rattle.ftd_rules.specs.Laws.{Covers}
 use Rattle.ftd_machine.specs.State.{State, Enrolled, Entries, Entry, entries_of, holidays}
 use Rattle.ftd_machine.specs.State.{calendar_at, is_given, kept_at, account_of, is_named}
-use Rattle.ftd_machine.specs.State.{figure_at, latest, all_at}
+use Rattle.ftd_machine.specs.State.{figure_at, in_force_at, latest, all_at, reported_at}
 use Rattle.ftd_machine.specs.History.{form_of, AreLinesOf, HasLookback}
 use Rattle.ftd_machine.specs.Checks.{Answer, first_of}
 use Rattle.ftd_machine.specs.Agenda.{EachToLater}
 use Rattle.ftd_machine.specs.Limits.{can_have_calendar}
+use Rattle.ftd_machine.specs.Requests.{form_for}
 use Rattle.ftd_machine.specs.Told.{kept_answer}
 use Rattle.ftd_machine.specs.Kept.{IsEnrolled, IsAccountBefore, AreAccounts, IsTotal}
-use Rattle.ftd_machine.specs.Kept.{period_of, IsTotalBefore, AreTotals, IsAdded, IsDayBefore}
+use Rattle.ftd_machine.specs.Kept.{period_number, IsTotalBefore, AreTotals, IsAdded, IsDayBefore}
 use Rattle.ftd_machine.specs.Kept.{AreHolidays, IsRunIn, IsRunBefore, AreRuns, IsHeldBy}
 use Rattle.ftd_machine.specs.Kept.{IsPaymentIn, IsPaymentBefore, ArePayments, kept_checks}
 use Rattle.ftd_machine.specs.Kept.{TellsKept, as_first_reported, line_of, AreYears, kept_days}
+use Rattle.ftd_machine.specs.declared.entries.ReturnPeriod.{ReturnPeriod}
+use Rattle.ftd_machine.specs.declared.entries.ReturnPeriod.TheVariants.{Quarter, Year}
 use Rattle.ftd_machine.specs.declared.kept.KeptAccount.{KeptAccount}
 use Rattle.ftd_machine.specs.declared.kept.KeptPayment.{KeptPayment}
 use Rattle.ftd_machine.specs.declared.kept.KeptRun.{KeptRun}
 use Rattle.ftd_machine.specs.declared.kept.KeptTotal.{KeptTotal}
 use Rattle.ftd_machine.specs.declared.kept.KeptYear.{KeptYear}
-use Rattle.ftd_machine.specs.declared.kept.KeptTotal.TheVariants.{OfQuarter, OfYear}
 use Rattle.ftd_machine.specs.declared.kept.KeptRows.TheVariants as rows
 use Rattle.ftd_machine.specs.declared.replies.Refusal.TheVariants.{BadYear, CalendarMissing}
 use Rattle.ftd_machine.specs.declared.requests.KeptList.{KeptList}
@@ -171,9 +173,19 @@ years_some own name lines are =
 -- ---- reported totals
 
 -- the total of a quarter or of a year, by the form, and what is kept of it
+abbrev period_for : Form → ℕ → ReturnPeriod
+period_for F941 key = Quarter key
+period_for F943 key = Year key
+
 abbrev total_of : Form → ℕ → Cents → Cents → KeptTotal
-total_of F941 key cents first = OfQuarter key cents first
-total_of F943 key cents first = OfYear key cents first
+total_of form key cents first = record {
+  period = period_for form key;
+  cents = cents;
+  first = first;
+}
+
+abbrev number_of : KeptTotal → ℕ
+number_of x = period_number x.period
 
 abbrev reported_on : Form → Entries → List (Entry Cents)
 reported_on F941 own = own.reported
@@ -190,30 +202,46 @@ IsReported form own key cents first =
 
 -- each total is one of the form, of its key
 period_is : (form : Form) (key : ℕ) (cents first : Cents)
-    → period_of (total_of form key cents first) ≡ key
+    → number_of (total_of form key cents first) ≡ key
 period_is F941 key cents first = refl
 period_is F943 key cents first = refl
 
 total_is : (form : Form) (own : Entries) (key : ℕ) (cents first : Cents)
     → IsReported form own key cents first → IsTotal form own (total_of form key cents first)
-total_is F941 own key cents first h = h
-total_is F943 own key cents first h = h
+total_is F941 own key cents first h = record {
+  of_form = refl;
+  in_force = h.0;
+  first_reported = h.1;
+}
+total_is F943 own key cents first h = record {
+  of_form = refl;
+  in_force = h.0;
+  first_reported = h.1;
+}
+
+parts_at : (form : Form) (own : Entries) (period : ReturnPeriod) (was now : Cents)
+    → form_for period ≡ form → in_force_at own period ≡ Some now
+    → reported_at own period ≡ Some was → (key : ℕ) × (cents : Cents) × (first : Cents)
+    × (record { period = period; cents = now; first = was } ≡ total_of form key cents first)
+    × IsReported form own key cents first
+parts_at F941 own (Quarter key) was now is force first = (key, now, was, refl, (force, first))
+parts_at F941 own (Year key) was now is force first = absurd cc
+parts_at F943 own (Quarter key) was now is force first = absurd cc
+parts_at F943 own (Year key) was now is force first = (key, now, was, refl, (force, first))
 
 total_parts : (form : Form) (own : Entries) (x : KeptTotal) → IsTotal form own x → (key : ℕ)
     × (cents : Cents) × (first : Cents) × (x ≡ total_of form key cents first)
     × IsReported form own key cents first
-total_parts F941 own (OfQuarter key cents first) h = (key, cents, first, refl, h)
-total_parts F941 own (OfYear key cents first) h = absurd h
-total_parts F943 own (OfQuarter key cents first) h = absurd h
-total_parts F943 own (OfYear key cents first) h = (key, cents, first, refl, h)
+total_parts form own x h =
+    parts_at form own x.period x.first x.cents h.of_form h.in_force h.first_reported
 
-total_one : (form : Form) (own : Entries) (x y : KeptTotal) → period_of x ≡ period_of y
+total_one : (form : Form) (own : Entries) (x y : KeptTotal) → number_of x ≡ number_of y
     → IsTotal form own x → IsTotal form own y → x ≡ y
 total_one form own x y same g h =
     let a = total_parts form own x g in
     let b = total_parts form own y h in
-    let key : a.0 ≡ b.0 = sym (period_is form a.0 a.1 a.2) ∙ ap period_of (sym a.3) ∙ same
-    ∙ ap period_of b.3 ∙ period_is form b.0 b.1 b.2 in
+    let key : a.0 ≡ b.0 = sym (period_is form a.0 a.1 a.2) ∙ ap number_of (sym a.3) ∙ same
+    ∙ ap number_of b.3 ∙ period_is form b.0 b.1 b.2 in
     let other : IsReported form own a.0 b.1 b.2 =
     subst (λ k. IsReported form own k b.1 b.2) (sym key) b.4 in
     let cents : a.1 ≡ b.1 = same_Some a.1 b.1 (sym a.4.0 ∙ other.0) in
@@ -260,7 +288,7 @@ totals_some own name =
     let form = form_of own.account in
     let made = totals_are form own in
     let listed = all_in_order IsTotalBefore (IsTotal form own) (λ x y z g h. omega arith)
-    (λ x y g h. elim (three (period_of x) (period_of y)) [
+    (λ x y g h. elim (three (number_of x) (number_of y)) [
       | inl less ↦ inl less
       | inr not ↦ elim not [
         | inl same ↦ inr (inl (total_one form own x y same g h))

@@ -3,6 +3,7 @@
 use Rattle.std.proofs.Common.{◌≡◌, inl, inr, ap, ℕ, ◌<◌, List, arith}
 use Rattle.std.specs.List.{sum_by}
 use Rattle.std.proofs.lemmas.Bool.{cases_lt}
+use Rattle.ftd_rules.specs.declared.TheConstants.{AMOUNTS_END}
 use Rattle.ftd_rules.specs.declared.Obligation.{Obligation}
 use Rattle.ftd_rules.specs.declared.verdict.DueRow.{DueRow}
 use Rattle.ftd_rules.specs.Lists.{Has}
@@ -11,7 +12,6 @@ use Rattle.ftd_rules.specs.Verdicts.{amount_of}
 use Rattle.ftd_rules.specs.Private.Obligations.{IsOwedPiece}
 use Rattle.ftd_rules.proofs.Stated.{rows_owed}
 use Rattle.ftd_rules.proofs.Covering.{within_period, covering_one}
-use Rattle.ftd_machine.specs.Limits.{amounts_end}
 use Rattle.ftd_machine.specs.State.{State, holidays, entries_of}
 use Rattle.ftd_machine.specs.History.{form_of, live_sums}
 use Rattle.ftd_machine.specs.Asking.{IsDueList, first_of_row, IsScheduleB, day_of_sum}
@@ -27,7 +27,7 @@ module _ (s : State) (name : List ℕ) (sound : IsSound s) where
   -- the obligations of a due list lie apart, each with its liability
   pub due_list_small : (quarter as_of : ℕ) (answer : Answer)
       → (h : IsDueList (holidays s) (entries_of s name) name quarter as_of answer)
-      → sum_by amount_of h.listed < amounts_end
+      → sum_by amount_of h.listed < AMOUNTS_END
   due_list_small quarter as_of answer h =
       let own = entries_of s name in
       let form = form_of own.account in
@@ -62,7 +62,7 @@ module _ (s : State) (name : List ℕ) (sound : IsSound s) where
   -- the days of Schedule B differ, each with its liability
   pub days_small : (quarter : ℕ) (answer : Answer)
       → (h : IsScheduleB (entries_of s name) name quarter answer)
-      → sum_by cents_of h.listed < amounts_end
+      → sum_by cents_of h.listed < AMOUNTS_END
   days_small quarter answer h =
       let sums = live_sums (entries_of s name) in
       let apart : LieApart day_of_sum day_of_sum cents_of sums h.listed =

@@ -3,10 +3,7 @@ use Rattle.std.proofs.Common.{◌≡◌, ◌∙◌, inl, inr, refl, sym, ap, sub
 use Rattle.std.proofs.Common.{[], ◌∷◌, ◌++◌, Option, None, Some, Ok}
 use Rattle.std.specs.Option.{option_or}
 use Rattle.ftd_days.specs.Calendar.{year_of, year_start, quarter_start}
-use Rattle.ftd_days.specs.declared.cents.Cents.{Cents}
-use Rattle.ftd_machine.specs.declared.entries.Account.{Account}
 use Rattle.ftd_rules.specs.declared.run.PayRun.{PayRun}
-use Rattle.ftd_rules.specs.declared.payment.Payment.{Payment}
 use Rattle.ftd_rules.specs.declared.run.Voidable.{Voidable}
 use Rattle.ftd_machine.specs.State.{State, Entries, entries_of, kept_at, is_open, is_given}
 use Rattle.ftd_machine.specs.State.{account_in_force, all_at, numbered, holidays}

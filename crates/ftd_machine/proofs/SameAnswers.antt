@@ -1,7 +1,7 @@
 -- What each question's answers have in common, one clause a question: states that agree on an
 -- account tell the same of it; one thing is told; and something is told where the checks pass.
 use Rattle.std.proofs.Common.{◌≡◌, ◌∙◌, refl, sym, ap, subst, ℕ, Bool, true, List, [], Option}
-use Rattle.std.proofs.Common.{None, Some, Ok}
+use Rattle.std.proofs.Common.{None, Some}
 use Rattle.std.specs.Prelude.{unwrap_or}
 use Rattle.ftd_days.specs.Calendar.{year_of, quarter_year}
 use Rattle.ftd_rules.specs.Accounts.{is_account_name}
@@ -22,7 +22,6 @@ use Rattle.ftd_machine.specs.Questions.{question_checks, Tells, AsksOf}
 use Rattle.ftd_machine.specs.Laws.{AgreeOn}
 use Rattle.ftd_machine.specs.declared.lists.AgendaRow.{AgendaRow}
 use Rattle.ftd_machine.specs.Told.{agenda_answer, owed_answer}
-use Rattle.ftd_machine.specs.declared.replies.Reply.TheVariants as reply
 use Rattle.ftd_machine.specs.declared.replies.Refusal.TheVariants.{BadName, BadDay}
 use Rattle.ftd_machine.specs.declared.replies.Refusal.TheVariants.{UnknownAccount, YearNotOpen}
 use Rattle.ftd_machine.specs.declared.requests.Question.{Question}

@@ -6,6 +6,8 @@ use Rattle.std.specs.List.{sum_by}
 use Rattle.std.proofs.lemmas.Bool.{leb-true, and_parts}
 use Rattle.std.proofs.lemmas.List.{length-map}
 use Rattle.std.proofs.lemmas.List.Sums.{sum_by-le, count_by-le-length, length-filter}
+use Rattle.ftd_rules.specs.declared.TheConstants.{AMOUNTS_END}
+use Rattle.ftd_machine.specs.declared.limits.TheConstants.{MOST_ENTRIES}
 use Rattle.ftd_days.specs.declared.cents.Cents.{Cents}
 use Rattle.ftd_rules.specs.declared.DaySum.{DaySum}
 use Rattle.ftd_rules.specs.declared.Form.{Form}
@@ -19,7 +21,7 @@ use Rattle.ftd_rules.specs.Payments.{paid_by, counts_by}
 use Rattle.ftd_rules.specs.Lookback.{Counts}
 use Rattle.ftd_rules.proofs.Rising.{all_has}
 use Rattle.ftd_rules.proofs.Members.{has_mapped}
-use Rattle.ftd_machine.specs.Limits.{is_amount, are_amounts, most_entries, amounts_end}
+use Rattle.ftd_machine.specs.Limits.{is_amount, are_amounts}
 use Rattle.ftd_machine.specs.State.{State, Entry, entries_of, is_of, has_key, content_of, latest}
 use Rattle.ftd_machine.specs.State.{all_at}
 use Rattle.ftd_machine.specs.History.{form_of, figure_of, figures, quarter_figures, live, is_live}
@@ -47,8 +49,8 @@ if_le false n = omega arith
 
 -- ---- sums of at most 20,000 amounts
 
-few_small : {X : Type 0} (f : X → ℕ) (xs : List X) → length xs ≤ most_entries
-    → ((x : X) → Has xs x → f x ≤ 299_999_999_997) → sum_by f xs < amounts_end
+few_small : {X : Type 0} (f : X → ℕ) (xs : List X) → length xs ≤ MOST_ENTRIES
+    → ((x : X) → Has xs x → f x ≤ 299_999_999_997) → sum_by f xs < AMOUNTS_END
 few_small f xs few each =
     let sum : sum_by f xs ≤ length xs * 299_999_999_997 =
     sum_by-le f 299_999_999_997 xs (all_has (λ x. f x ≤ 299_999_999_997) xs each) in
@@ -72,7 +74,7 @@ live_has entries x has =
 
 module _ (s : State) (name : List ℕ) (sound : IsSound s) where
   pub liability_small : (first last : ℕ)
-      → liability (live_sums (entries_of s name)) first last < amounts_end
+      → liability (live_sums (entries_of s name)) first last < AMOUNTS_END
   liability_small first last =
       let own = entries_of s name in
       let long = length-map (live own.runs) liability_of in
@@ -91,7 +93,7 @@ module _ (s : State) (name : List ℕ) (sound : IsSound s) where
       omega arith))
 
   pub paid_small : (first last as_of day : ℕ)
-      → paid_by (live_payments (entries_of s name)) first last as_of day < amounts_end
+      → paid_by (live_payments (entries_of s name)) first last as_of day < AMOUNTS_END
   paid_small first last as_of day =
       let own = entries_of s name in
       let by = min day as_of in
@@ -153,7 +155,7 @@ module _ (s : State) (name : List ℕ) (sound : IsSound s) where
       cents late.1
 
   lookback_on : (form : Form) (year : ℕ) (total : Cents)
-      → IsLookbackOn form (entries_of s name) year total → total.0 < amounts_end
+      → IsLookbackOn form (entries_of s name) year total → total.0 < AMOUNTS_END
   lookback_on F941 year total h =
       let a = quarter_small _ _ h.first h.count.0 in
       let b = quarter_small _ _ h.second h.count.1 in
@@ -167,5 +169,5 @@ module _ (s : State) (name : List ℕ) (sound : IsSound s) where
       sound.corrected_year_amounts _ total late.1 in omega arith
 
   pub lookback_small : (year : ℕ) (total : Cents) → HasLookback (entries_of s name) year total
-      → total.0 < amounts_end
+      → total.0 < AMOUNTS_END
   lookback_small year total h = lookback_on (form_of (entries_of s name).account) year total h

@@ -4,6 +4,7 @@ use Rattle.std.proofs.Common.{◌==◌, ◌||◌, ◌&&◌, Bool, true, false, c
 use Rattle.std.proofs.Common.{filter, length, Option, None, Some, Ok, arith, bytes_eq}
 use Rattle.std.specs.Prelude.{find, option_map, is_some, nat_le, nat_lt}
 use Rattle.std.proofs.lemmas.Bool.{eqb-true, leb-true, ltb-true, or_cases, and_parts}
+use Rattle.ftd_machine.specs.declared.limits.TheConstants.{MOST_ENTRIES}
 use Rattle.ftd_days.specs.Business.{is_holiday}
 use Rattle.ftd_days.specs.Holidays.{holidays_of}
 use Rattle.ftd_days.specs.Calendar.{year_of}
@@ -22,7 +23,7 @@ use Rattle.ftd_rules.specs.declared.run.Voidable.{Voidable}
 use Rattle.ftd_rules.proofs.Members.{has_last, has_mapped, has_kept}
 use Rattle.ftd_machine.specs.Limits.{can_be_opened, can_have_calendar, is_calendar, is_amount}
 use Rattle.ftd_machine.specs.Limits.{are_amounts}
-use Rattle.ftd_machine.specs.Limits.{is_number, most_entries}
+use Rattle.ftd_machine.specs.Limits.{is_number}
 use Rattle.ftd_machine.specs.State.{State, nothing, Entry, entries_of, is_named, account_of, is_of}
 use Rattle.ftd_machine.specs.State.{has_key, content_of, kept_at, is_open, is_given, calendar_at}
 use Rattle.ftd_machine.specs.State.{all_days, days_of, added_in, DayChange, enrolled_in, moves_in}
@@ -394,7 +395,7 @@ sound_open s name year there between given next first fresh total sound =
 sound_run : (s : State) (name : List ℕ) (number : ℕ) (value : PayRun)
     → kept_at number (entries_of s name).runs ≡ None
     → is_open (entries_of s name) (year_of value.payday) ≡ true → are_amounts value ≡ true
-    → is_number number ≡ true → length (entries_of s name).runs < most_entries → IsSound s
+    → is_number number ≡ true → length (entries_of s name).runs < MOST_ENTRIES → IsSound s
     → IsSound (record s { runs = with_entry s.runs name number (taken value) })
 sound_run s name number value none there fits numbered room sound =
     let new : Entry (Voidable PayRun) =
@@ -405,7 +406,7 @@ sound_run s name number value none there fits numbered room sound =
     let paydays = each_last (λ (x : Entry (Voidable PayRun)). is_open (entries_of s x.name)
     (year_of x.content.value.payday) ≡ true) s.runs new sound.paydays there in
     let counts : (other : List ℕ) → (length (filter (is_of other) (s.runs ++ new ∷ []))
-    ≤ most_entries) × (length (entries_of s other).payments ≤ most_entries) = λ other.
+    ≤ MOST_ENTRIES) × (length (entries_of s other).payments ≤ MOST_ENTRIES) = λ other.
     (counts_more s.runs _ (λ n. (sound.counts n).0) room other, (sound.counts other).1) in
     let numbers = each_last (λ (x : Entry (Voidable PayRun)). is_number x.key ≡ true) s.runs new
     sound.run_numbers numbered in
@@ -416,7 +417,7 @@ sound_run s name number value none there fits numbered room sound =
 sound_payment : (s : State) (name : List ℕ) (number : ℕ) (value : Payment)
     → kept_at number (entries_of s name).payments ≡ None
     → is_open (entries_of s name) (year_of value.for_day) ≡ true → is_amount value.cents ≡ true
-    → length (entries_of s name).payments < most_entries → IsSound s
+    → length (entries_of s name).payments < MOST_ENTRIES → IsSound s
     → IsSound (record s { payments = with_entry s.payments name number (taken value) })
 sound_payment s name number value none there fits room sound =
     let new : Entry (Voidable Payment) =
@@ -427,8 +428,8 @@ sound_payment s name number value none there fits room sound =
     refl refl refl refl refl sound.totals in
     let days = each_last (λ (x : Entry (Voidable Payment)). is_open (entries_of s x.name)
     (year_of x.content.value.for_day) ≡ true) s.payments new sound.paid_days there in
-    let counts : (other : List ℕ) → (length (entries_of s other).runs ≤ most_entries)
-    × (length (filter (is_of other) (s.payments ++ new ∷ [])) ≤ most_entries) = λ other.
+    let counts : (other : List ℕ) → (length (entries_of s other).runs ≤ MOST_ENTRIES)
+    × (length (filter (is_of other) (s.payments ++ new ∷ [])) ≤ MOST_ENTRIES) = λ other.
     ((sound.counts other).0, counts_more s.payments _ (λ n. (sound.counts n).1) room other) in
     let amounts = each_last
     (λ (x : Entry (Voidable Payment)). is_amount x.content.value.cents ≡ true) s.payments new
@@ -439,8 +440,8 @@ module _ (s : State) (name : List ℕ) (number : ℕ) (sound : IsSound s) where
   sound_void_run : IsSound (record s { runs = with_voided s.runs name number })
   sound_void_run =
       let counts : (other : List ℕ)
-      → (length (filter (is_of other) (with_voided s.runs name number)) ≤ most_entries)
-      × (length (entries_of s other).payments ≤ most_entries) =
+      → (length (filter (is_of other) (with_voided s.runs name number)) ≤ MOST_ENTRIES)
+      × (length (entries_of s other).payments ≤ MOST_ENTRIES) =
       λ other. (
         rw (voided_count s.runs name number other) (sound.counts other).0,
         (sound.counts other).1,
@@ -460,8 +461,8 @@ module _ (s : State) (name : List ℕ) (number : ℕ) (sound : IsSound s) where
 
   sound_void_payment : IsSound (record s { payments = with_voided s.payments name number })
   sound_void_payment =
-      let counts : (other : List ℕ) → (length (entries_of s other).runs ≤ most_entries)
-      × (length (filter (is_of other) (with_voided s.payments name number)) ≤ most_entries) =
+      let counts : (other : List ℕ) → (length (entries_of s other).runs ≤ MOST_ENTRIES)
+      × (length (filter (is_of other) (with_voided s.payments name number)) ≤ MOST_ENTRIES) =
       λ other. (
         (sound.counts other).0,
         rw (voided_count s.payments name number other) (sound.counts other).1,
@@ -623,7 +624,7 @@ step_sound s (Post name number run) answer next step sound =
     search heads depth 12 in
     let fits : Gives P (are_amounts run ≡ true) = search heads depth 12 in
     let numbered : Gives P (is_number number ≡ true) = search heads depth 12 in
-    let room : Gives P (nat_lt (length (entries_of s name).runs) most_entries ≡ true) =
+    let room : Gives P (nat_lt (length (entries_of s name).runs) MOST_ENTRIES ≡ true) =
     search heads depth 12 in
     post_sound s answer next sound P _ _ step (λ e. sound_run s name number run (none.fact e)
     (there.fact e) (fits.fact e) (numbered.fact e) (ltb-true _ _ (room.fact e)) sound)
@@ -638,7 +639,7 @@ step_sound s (Pay name number payment) answer next step sound =
     search heads depth 12 in
     let fits : Gives P (nat_le 1 payment.cents.0 && is_amount payment.cents ≡ true) = search heads
     depth 12 in
-    let room : Gives P (nat_lt (length (entries_of s name).payments) most_entries ≡ true) =
+    let room : Gives P (nat_lt (length (entries_of s name).payments) MOST_ENTRIES ≡ true) =
     search heads depth 12 in
     done_sound s answer next sound P _ step (λ e. sound_payment s name number payment (none.fact e)
     (there.fact e) (and_parts _ _ (fits.fact e)).1 (ltb-true _ _ (room.fact e)) sound)

@@ -1,7 +1,7 @@
 -- The schedule of a day, the liability by day and the opening of a year have an answer.
 use Rattle.std.proofs.Common.{◌≡◌, ◌∙◌, ◌⊎◌, inl, inr, refl, sym, ap, subst, ℕ, ◌+◌, ◌-◌, ◌≤◌, ◌<◌}
 use Rattle.std.proofs.Common.{rules, Bool, true, false, cond}
-use Rattle.std.proofs.Common.{List, [], ◌∷◌, ◌++◌, map, arith, Option, None, Some, Ok}
+use Rattle.std.proofs.Common.{List, [], ◌∷◌, ◌++◌, map, arith, Option, None, Some}
 use Rattle.std.specs.Prelude.{◌↔◌, zero, suc, is_some, find, option_map, IsSome, IsSomeAnd}
 use Rattle.std.proofs.lemmas.Bool.{eqb-true, false≢true, cases_Bool, cases_lt}
 use Rattle.std.proofs.lemmas.Bool.Decides.{eqb_tells}

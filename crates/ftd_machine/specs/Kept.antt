@@ -3,23 +3,24 @@ use Rattle.std.specs.Prelude.{◌≡◌, ◌⊎◌, ◌≤◌, ◌<◌, ◌↔�
 use Rattle.std.specs.Prelude.{Bool, true, false, map}
 use Rattle.ftd_days.specs.Calendar.{year_of, quarter_of}
 use Rattle.ftd_rules.specs.declared.Form.{Form}
-use Rattle.ftd_rules.specs.declared.Form.TheVariants.{F941, F943}
 use Rattle.ftd_rules.specs.declared.Obligation.{Obligation}
 use Rattle.ftd_rules.specs.declared.YearLine.{YearLine}
 use Rattle.ftd_rules.specs.Laws.{Covers}
 use Rattle.ftd_rules.specs.Lists.{Has}
 use Rattle.ftd_machine.specs.State.{State, Entries, entries_of, holidays, calendar_at, is_given}
-use Rattle.ftd_machine.specs.State.{kept_at, figure_at, is_in_force}
+use Rattle.ftd_machine.specs.State.{kept_at, in_force_at, is_in_force, reported_at}
 use Rattle.ftd_machine.specs.History.{form_of, AreLinesOf, AreOwed, HasLookback}
 use Rattle.ftd_machine.specs.Checks.{Answer}
-use Rattle.ftd_machine.specs.Requests.{kept_of_checks, kept_in_quarter_checks, holidays_checks}
+use Rattle.ftd_machine.specs.Requests.{form_for, kept_of_checks, kept_in_quarter_checks}
+use Rattle.ftd_machine.specs.Requests.{holidays_checks}
 use Rattle.ftd_machine.specs.Agenda.{EachToLater, IsNameBefore}
+use Rattle.ftd_machine.specs.declared.entries.ReturnPeriod.{ReturnPeriod}
+use Rattle.ftd_machine.specs.declared.entries.ReturnPeriod.TheVariants.{Quarter, Year}
 use Rattle.ftd_machine.specs.declared.kept.KeptAccount.{KeptAccount}
 use Rattle.ftd_machine.specs.declared.kept.KeptHoliday.{KeptHoliday}
 use Rattle.ftd_machine.specs.declared.kept.KeptPayment.{KeptPayment}
 use Rattle.ftd_machine.specs.declared.kept.KeptRun.{KeptRun}
 use Rattle.ftd_machine.specs.declared.kept.KeptTotal.{KeptTotal}
-use Rattle.ftd_machine.specs.declared.kept.KeptTotal.TheVariants.{OfQuarter, OfYear}
 use Rattle.ftd_machine.specs.declared.kept.KeptYear.{KeptYear}
 use Rattle.ftd_machine.specs.declared.kept.KeptRows.TheVariants as rows
 use Rattle.ftd_machine.specs.Told.{kept_answer}
@@ -64,23 +65,20 @@ pub record AreYears (own : Entries) (name : List ℕ) (answer : Answer) : Type 0
 
 -- ---- reported totals
 
--- it is in force, and was first reported so: for a quarter on Form 941, for a year on Form 943
-abbrev pub IsTotal : Form → Entries → KeptTotal → Type 0
-IsTotal F941 own (OfQuarter quarter cents first) =
-    (figure_at quarter own.reported own.corrected ≡ Some cents)
-    × (kept_at quarter own.reported ≡ Some first)
-IsTotal F941 own (OfYear year cents first) = ⊥
-IsTotal F943 own (OfQuarter quarter cents first) = ⊥
-IsTotal F943 own (OfYear year cents first) =
-    (figure_at year own.reported_years own.corrected_years ≡ Some cents)
-    × (kept_at year own.reported_years ≡ Some first)
+-- it is the total of a quarter on Form 941 or of a year on Form 943: as it is in force, and as it
+-- was first reported
+pub record IsTotal (form : Form) (own : Entries) (x : KeptTotal) : Type 0 where
+  pub of_form : form_for x.period ≡ form
+  pub in_force : in_force_at own x.period ≡ Some x.cents
+  pub first_reported : reported_at own x.period ≡ Some x.first
 
-abbrev pub period_of : KeptTotal → ℕ
-period_of (OfQuarter quarter cents first) = quarter
-period_of (OfYear year cents first) = year
+-- the number of the quarter or the year
+abbrev pub period_number : ReturnPeriod → ℕ
+period_number (Quarter quarter) = quarter
+period_number (Year year) = year
 
 abbrev pub IsTotalBefore : KeptTotal → KeptTotal → Type 0
-IsTotalBefore a b = period_of a < period_of b
+IsTotalBefore a b = period_number a.period < period_number b.period
 
 -- the answer is all of them, by quarter or year
 pub record AreTotals (own : Entries) (name : List ℕ) (answer : Answer) : Type 0 where

@@ -5,9 +5,8 @@ use Rattle.ftd_days.specs.Calendar.{year_of}
 use Rattle.ftd_days.specs.declared.cents.Cents.{Cents}
 use Rattle.ftd_days.specs.declared.limits.TheConstants.{FIRST_YEAR, LAST_OPEN_YEAR, LAST_YEAR}
 use Rattle.ftd_days.specs.declared.limits.TheConstants.{MOST_HOLIDAYS}
-use Rattle.ftd_rules.specs.declared.TheConstants.{AMOUNTS_END, MOST_CENTS}
-use Rattle.ftd_machine.specs.declared.limits.TheConstants.{FIRST_REPORTED_YEAR, MOST_ENTRIES}
-use Rattle.ftd_machine.specs.declared.limits.TheConstants.{MOST_NUMBER}
+use Rattle.ftd_rules.specs.declared.TheConstants.{MOST_CENTS}
+use Rattle.ftd_machine.specs.declared.limits.TheConstants.{FIRST_REPORTED_YEAR, MOST_NUMBER}
 use Rattle.ftd_rules.specs.declared.run.PayRun.{PayRun}
 
 -- the year is one of these
@@ -39,10 +38,6 @@ are_amounts run = is_amount run.fit && (is_amount run.ss && is_amount run.medica
 abbrev pub is_number : ℕ → Bool
 is_number number = nat_le 1 number && nat_le number MOST_NUMBER
 
--- the most holidays of a year, those that were given and those that were added
-abbrev pub most_holidays : ℕ
-most_holidays = MOST_HOLIDAYS
-
 -- each day is before the next
 abbrev pub are_rising : List ℕ → Bool
 are_rising days = list_all (λ (day, next). nat_lt day next) (zip days (drop 1 days))
@@ -50,14 +45,5 @@ are_rising days = list_all (λ (day, next). nat_lt day next) (zip days (drop 1 d
 -- a calendar: at most 60 days of the year, rising
 abbrev pub is_calendar : ℕ → List ℕ → Bool
 is_calendar year days =
-    nat_le (length days) most_holidays
+    nat_le (length days) MOST_HOLIDAYS
     && (list_all (λ day. year_of day == year) days && are_rising days)
-
--- the most runs of an account, and the most payments, voided ones too
-abbrev pub most_entries : ℕ
-most_entries = MOST_ENTRIES
-
--- the amounts of an account are together below this, in cents: of 20,000 runs with three amounts
--- each
-abbrev pub amounts_end : ℕ
-amounts_end = AMOUNTS_END

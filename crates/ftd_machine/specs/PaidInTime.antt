@@ -6,7 +6,7 @@ use Rattle.ftd_rules.specs.declared.run.PayRun.{PayRun}
 use Rattle.ftd_rules.specs.declared.run.Voidable.{Voidable}
 use Rattle.ftd_rules.specs.declared.payment.Payment.{Payment}
 use Rattle.ftd_rules.specs.declared.verdict.Verdict.{Verdict}
-use Rattle.ftd_rules.specs.declared.verdict.Verdict.TheVariants.{Met, WithReturn, Open, MadeUp}
+use Rattle.ftd_rules.specs.declared.verdict.Verdict.TheVariants.{WithReturn}
 use Rattle.ftd_rules.specs.declared.verdict.Verdict.TheVariants.{Short, Late}
 use Rattle.ftd_rules.specs.Liability.{liability}
 use Rattle.ftd_rules.specs.Obligations.{IsObligation}

@@ -1,10 +1,10 @@
 -- The questions: the checks of each, and what it is answered.
 use Rattle.std.specs.Prelude.{◌≡◌, ◌<◌, ℕ, List, Option, Some, None, ⊤}
 use Rattle.std.specs.List.{sum_by}
+use Rattle.ftd_rules.specs.declared.TheConstants.{AMOUNTS_END}
 use Rattle.ftd_days.specs.Calendar.{year_of, quarter_year}
 use Rattle.ftd_rules.specs.Liability.{cents_of}
 use Rattle.ftd_rules.specs.Verdicts.{amount_of}
-use Rattle.ftd_machine.specs.Limits.{amounts_end}
 use Rattle.ftd_machine.specs.State.{State, entries_of, holidays, is_open}
 use Rattle.ftd_machine.specs.Checks.{Answer}
 use Rattle.ftd_machine.specs.Requests.{status_checks, due_list_checks, schedule_b_checks}
@@ -63,8 +63,8 @@ Tells s (Kept kept) answer = TellsKept s kept answer
 -- the amounts of a list of one account that is told are together below 6,000,000,000,000,000 cents;
 -- what is due over all accounts has no such limit
 abbrev pub AreBounded : Facts → Type 0
-AreBounded (facts.Due list) = sum_by amount_of list.rows < amounts_end
-AreBounded (facts.Days list) = sum_by cents_of list.sums < amounts_end
+AreBounded (facts.Due list) = sum_by amount_of list.rows < AMOUNTS_END
+AreBounded (facts.Days list) = sum_by cents_of list.sums < AMOUNTS_END
 AreBounded other = ⊤
 
 -- the account that a question names; what is due over all accounts names none

@@ -2,6 +2,8 @@
 -- account, what has the key, whether the year is open, and how many entries there are.
 use Rattle.std.specs.Prelude.{ℕ, ◌+◌, ◌==◌, ◌&&◌, ◌++◌, not, nat_le, nat_lt, Bool, true, false}
 use Rattle.std.specs.Prelude.{bytes_eq, List, [], ◌∷◌, length, Option, None, Some, if◌then◌else◌}
+use Rattle.ftd_machine.specs.declared.limits.TheConstants.{MOST_ENTRIES}
+use Rattle.ftd_days.specs.declared.limits.TheConstants.{MOST_HOLIDAYS}
 use Rattle.ftd_days.specs.Calendar.{year_of, quarter_year, quarter_start}
 use Rattle.ftd_days.specs.Business.{is_holiday}
 use Rattle.ftd_days.specs.declared.cents.Cents.{Cents}
@@ -17,7 +19,6 @@ use Rattle.ftd_rules.specs.declared.run.Voidable.{Voidable}
 use Rattle.ftd_rules.specs.Accounts.{is_account_name}
 use Rattle.ftd_machine.specs.Limits.{can_be_opened, can_be_reported, can_have_calendar, is_amount}
 use Rattle.ftd_machine.specs.Limits.{are_amounts, is_number, is_calendar}
-use Rattle.ftd_machine.specs.Limits.{most_holidays, most_entries}
 use Rattle.ftd_days.specs.declared.limits.TheConstants.{LAST_OPEN_YEAR}
 use Rattle.ftd_machine.specs.declared.replies.Refusal.{Refusal}
 use Rattle.ftd_machine.specs.Checks.{Answer, needs, done_if, finds, meets, is_new}
@@ -147,7 +148,7 @@ add_holiday_checks day calendar added =
     needs (can_have_calendar (year_of day)) BadDay
     ∷ done_if (is_holiday days day)
     ∷ finds calendar (CalendarMissing (year_of day))
-    ∷ needs (nat_lt (length days) most_holidays) BadCalendar
+    ∷ needs (nat_lt (length days) MOST_HOLIDAYS) BadCalendar
     ∷ []
 
 -- Total: the name; a quarter or a year of 1999 to 2098; the amount; the account, on the form whose
@@ -195,7 +196,7 @@ post_checks name number run account known there count =
     ∷ is_new known (same_run run) RunDiffers
     ∷ needs (meets (has_started run.payday) account) BeforeStart
     ∷ needs there (YearNotOpen (year_of run.payday))
-    ∷ needs (nat_lt count most_entries) TooManyRuns
+    ∷ needs (nat_lt count MOST_ENTRIES) TooManyRuns
     ∷ []
 
 -- Void: the name; the number; the account; voided, it was voided before; and there is the run
@@ -225,7 +226,7 @@ pay_checks name number payment account known there count =
     ∷ is_new known (same_payment payment) PaymentDiffers
     ∷ needs (meets (has_started payment.for_day) account) BeforeStart
     ∷ needs there (YearNotOpen (year_of payment.for_day))
-    ∷ needs (nat_lt count most_entries) TooManyPayments
+    ∷ needs (nat_lt count MOST_ENTRIES) TooManyPayments
     ∷ []
 
 -- VoidPay: as Void, of a payment

@@ -1,5 +1,6 @@
 -- What is so of every state that requests lead to.
 use Rattle.std.specs.Prelude.{is_some, ◌≡◌, ◌≤◌, ℕ, ◌+◌, true, List, [], ◌∷◌, map, filter, length}
+use Rattle.ftd_machine.specs.declared.limits.TheConstants.{MOST_ENTRIES}
 use Rattle.ftd_days.specs.Calendar.{year_of}
 use Rattle.ftd_days.specs.Business.{is_holiday}
 use Rattle.ftd_days.specs.Holidays.{YearDays, AreFew}
@@ -10,7 +11,7 @@ use Rattle.ftd_rules.specs.declared.payment.Payment.{Payment}
 use Rattle.ftd_rules.specs.declared.run.Voidable.{Voidable}
 use Rattle.ftd_machine.specs.Limits.{can_be_opened, can_have_calendar, is_calendar, is_amount}
 use Rattle.ftd_machine.specs.Limits.{are_amounts}
-use Rattle.ftd_machine.specs.Limits.{is_number, most_entries}
+use Rattle.ftd_machine.specs.Limits.{is_number}
 use Rattle.ftd_machine.specs.State.{DayChange, State, Enrolled, all_days, Entry, entries_of, is_of}
 use Rattle.ftd_machine.specs.State.{is_open, is_given}
 use Rattle.ftd_machine.specs.History.{year_of_entry, HasLookback}
@@ -74,8 +75,8 @@ pub record IsSound (s : State) : Type 0 where
   pub paid_days : (e : Entry (Voidable Payment)) → Has s.payments e
       → is_open (entries_of s e.name) (year_of e.content.value.for_day) ≡ true
   -- an account has at most 20,000 runs, and as many payments, voided ones too
-  pub counts : (name : List ℕ) → (length (entries_of s name).runs ≤ most_entries)
-      × (length (entries_of s name).payments ≤ most_entries)
+  pub counts : (name : List ℕ) → (length (entries_of s name).runs ≤ MOST_ENTRIES)
+      × (length (entries_of s name).payments ≤ MOST_ENTRIES)
   -- each run has a number of 1 to 999,999,999
   pub run_numbers : (e : Entry (Voidable PayRun)) → Has s.runs e → is_number e.key ≡ true
   -- each amount is at most 999,999,999.99

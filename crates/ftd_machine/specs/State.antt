@@ -212,3 +212,8 @@ reported_at own (Year year) = kept_at year own.reported_years
 abbrev pub corrections_at : Entries → ReturnPeriod → List Cents
 corrections_at own (Quarter quarter) = all_at quarter own.corrected
 corrections_at own (Year year) = all_at year own.corrected_years
+
+-- the total of the period that is in force, if one was reported
+abbrev pub in_force_at : Entries → ReturnPeriod → Option Cents
+in_force_at own period =
+    option_map (λ cents. latest cents (corrections_at own period)) (reported_at own period)

@@ -10,7 +10,7 @@ use Rattle.ftd_rules.specs.declared.payment.Payment.{Payment}
 use Rattle.ftd_rules.specs.declared.run.Voidable.{Voidable}
 use Rattle.ftd_machine.specs.State.{State, Enrolled, Entries, Entry, holidays, calendar_at}
 use Rattle.ftd_machine.specs.State.{is_given, added_in, entries_of, is_of, has_key, kept_at}
-use Rattle.ftd_machine.specs.State.{is_open, all_at, changes_of, numbered, Move}
+use Rattle.ftd_machine.specs.State.{is_open, changes_of, numbered, Move}
 use Rattle.ftd_machine.specs.State.{reported_at, corrections_at}
 use Rattle.ftd_machine.specs.History.{HasLookback, LacksFigure}
 use Rattle.ftd_machine.specs.Checks.{Answer, first_of, needs, Decides}

@@ -1,6 +1,6 @@
 //! What is kept, as it is told.
 
-use crate::entries::Account;
+use crate::entries::{Account, ReturnPeriod};
 use crate::lists::AccountName;
 use ftd_days::{Cents, Day, Quarter};
 use ftd_rules::{ListOf, PayRun, Payment, YearLine};
@@ -23,21 +23,16 @@ pub struct KeptYear {
     pub first_lookback: Cents,
 }
 
-/// A total that was reported. Amounts are in cents.
+/// A total that was reported, for a quarter on Form 941 or for a year on Form 943. Amounts are in
+/// cents.
 #[derive(Clone, Copy, Debug, PartialEq, Eq)]
-pub enum KeptTotal {
-    /// Of a quarter, on Form 941: as it is in force, and as it was first reported.
-    OfQuarter {
-        quarter: Quarter,
-        cents: Cents,
-        first: Cents,
-    },
-    /// Of a year, on Form 943: as it is in force, and as it was first reported.
-    OfYear {
-        year: u32,
-        cents: Cents,
-        first: Cents,
-    },
+pub struct KeptTotal {
+    /// The quarter or the year.
+    pub period: ReturnPeriod,
+    /// As it is in force.
+    pub cents: Cents,
+    /// As it was first reported.
+    pub first: Cents,
 }
 
 /// A day that was given or added as a holiday.

@@ -9,7 +9,6 @@ ghost use Rattle.ftd_rules.specs.declared.verdict.DueRow.{DueRow};
 ghost use Rattle.ftd_rules.specs.Lists.{Has};
 ghost use Rattle.ftd_rules.specs.Liability.{liability};
 ghost use Rattle.ftd_rules.specs.Payments.{paid_by};
-ghost use Rattle.ftd_machine.specs.Limits.{amounts_end};
 ghost use Rattle.ftd_machine.specs.History.{live_sums, live_payments, HasLookback};
 ghost use Rattle.ftd_machine.specs.Checks.{Answer};
 ghost use Rattle.ftd_machine.specs.Step.{Step};
@@ -28,6 +27,8 @@ ghost use Rattle.ftd_machine.specs.declared.replies.Reply.TheVariants as reply;
 ghost use Rattle.ftd_machine.specs.declared.requests.Request.{Request};
 ghost use Rattle.ftd_machine.specs.declared.requests.Request.TheVariants.{Question};
 ghost use Rattle.ftd_machine.specs.declared.requests.Question.TheVariants.{DueList, Agenda, Owed};
+
+use ftd_rules::AMOUNTS_END;
 
 /// A refusal, the answer that a request was done before, and the answer to a question leave
 /// everything as it was.
@@ -72,11 +73,11 @@ pub fn each_request_has_an_answer()
 /// run of days, what was paid for one, and the total of a lookback period.
 pub fn sums_are_small()
     ensures liability { (s : State) (name : List ℕ) (first last : ℕ) → IsSound s
-        → liability (live_sums (entries_of s name)) first last < amounts_end }
+        → liability (live_sums (entries_of s name)) first last < AMOUNTS_END }
     ensures paid { (s : State) (name : List ℕ) (first last as_of day : ℕ) → IsSound s
-        → paid_by (live_payments (entries_of s name)) first last as_of day < amounts_end }
+        → paid_by (live_payments (entries_of s name)) first last as_of day < AMOUNTS_END }
     ensures lookback { (s : State) (name : List ℕ) (year : ℕ) (total : Cents) → IsSound s
-        → HasLookback (entries_of s name) year total → total.0 < amounts_end }
+        → HasLookback (entries_of s name) year total → total.0 < AMOUNTS_END }
 {}
 
 /// In a sound state, the amounts of a list that a request is answered with, a due list or the days

@@ -5,7 +5,7 @@ ghost use Rattle.std.specs.List.{list_all, sum_by};
 ghost use Rattle.ftd_days.specs.Calendar.{quarter_start, year_of};
 ghost use Rattle.ftd_rules.specs.Liability.{cents_of};
 ghost use Rattle.ftd_rules.specs.Verdicts.{amount_of};
-ghost use Rattle.ftd_machine.specs.Limits.{amounts_end, are_amounts, is_amount};
+ghost use Rattle.ftd_machine.specs.Limits.{are_amounts, is_amount};
 ghost use Rattle.ftd_machine.specs.Limits.{is_number, are_rising, is_calendar};
 ghost use Rattle.ftd_machine.specs.Limits.{can_be_opened, can_be_reported, can_have_calendar};
 
@@ -96,7 +96,7 @@ pub(crate) fn is_before_end(day: Day, quarter: Quarter) -> bool
 
 /// Whether the amounts of the rows are together below the end.
 pub(crate) fn are_rows_bounded(rows: &[DueRow]) -> bool
-    ensures { IsTrue result ↔ (sum_by amount_of rows.now < amounts_end) }
+    ensures { IsTrue result ↔ (sum_by amount_of rows.now < AMOUNTS_END) }
 {
     let mut total = 0;
     for row in rows {
@@ -110,7 +110,7 @@ pub(crate) fn are_rows_bounded(rows: &[DueRow]) -> bool
 
 /// Whether the amounts of the days are together below 6,000,000,000,000,000 cents.
 pub fn are_sums_bounded(sums: &[DaySum]) -> bool
-    ensures { IsTrue result ↔ (sum_by cents_of sums.now < amounts_end) }
+    ensures { IsTrue result ↔ (sum_by cents_of sums.now < AMOUNTS_END) }
 {
     let mut total = 0;
     for sum in sums {

@@ -6,6 +6,7 @@ use Rattle.std.proofs.lemmas.Bool.{true≢false, eqb-true}
 use Rattle.std.proofs.Common.{inl, inr}
 use Rattle.std.proofs.lemmas.List.{map-append, length-append}
 use Rattle.std.proofs.lemmas.List.Folds.{list_any-append}
+use Rattle.ftd_days.specs.declared.limits.TheConstants.{MOST_HOLIDAYS}
 use Rattle.ftd_days.specs.Calendar.{year_of}
 use Rattle.ftd_days.specs.Business.{is_holiday}
 use Rattle.ftd_days.specs.Holidays.{holidays_of, IsWithHoliday}
@@ -21,7 +22,7 @@ use Rattle.ftd_machine.specs.declared.requests.Entry.TheVariants as entry
 use Rattle.ftd_machine.specs.declared.replies.Reply.TheVariants.{Done}
 use Rattle.ftd_machine.specs.declared.replies.Refusal.TheVariants.{BadDay, BadCalendar}
 use Rattle.ftd_machine.specs.declared.replies.Refusal.TheVariants.{CalendarMissing}
-use Rattle.ftd_machine.specs.Limits.{is_between, most_holidays}
+use Rattle.ftd_machine.specs.Limits.{is_between}
 use Rattle.ftd_machine.specs.State.{State, calendar_at, added_in, holidays, all_days, DayChange}
 use Rattle.ftd_machine.specs.State.{changes_of, says_holiday, is_on_day, is_in_force, latest}
 use Rattle.ftd_machine.specs.Checks.{Answer, first_of, needs, done_if, finds, Decides}
@@ -44,7 +45,7 @@ use Rattle.ftd_posting.proofs.DayTurned.{entered_stands}
 abbrev checks_by : ℕ → Option (List ℕ) → Bool → ℕ → Option Answer
 checks_by day calendar there count =
     first_of (needs (is_between 2001 2099 (year_of day)) BadDay ∷ done_if there ∷ finds calendar
-    (CalendarMissing (year_of day)) ∷ needs (nat_lt count most_holidays) BadCalendar ∷ [])
+    (CalendarMissing (year_of day)) ∷ needs (nat_lt count MOST_HOLIDAYS) BadCalendar ∷ [])
 
 same_checks : (day : ℕ) (calendar : Option (List ℕ)) (some others : List ℕ)
     → is_holiday some day ≡ is_holiday others day → length some ≡ length others

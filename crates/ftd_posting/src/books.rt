@@ -13,7 +13,7 @@ ghost use Rattle.ftd_posting.specs.Books.{HasNoYear, IsBook, PostsBy, IsAbove, I
 ghost use Rattle.ftd_posting.specs.Books.{checks_by, first_year, greatest_known};
 
 use ftd_buckets::Window;
-use ftd_days::{Day, LAST_NUMBER};
+use ftd_days::{Day, FIRST_CALENDAR_YEAR, LAST_CALENDAR_YEAR, LAST_NUMBER};
 use ftd_entries::{has_year, is_open, known_account};
 use ftd_machine::{Account, Answer, Reply, post_check};
 use ftd_repairs::Ledger;
@@ -27,12 +27,12 @@ pub(crate) fn days_from(year: u32) -> Option<Window>
     ensures first { IfSome result (λ days. days.from ≡ year_start year) }
     ensures of_year { IfSome result (λ days. year_of days.from ≡ year) }
     ensures last { IfSome result (λ days. days.to ≡ last_day) }
-    ensures to { IfSome result (λ days. year ≤ 2199) }
+    ensures to { IfSome result (λ days. year ≤ LAST_CALENDAR_YEAR) }
 {
-    if year < 1900 || year > 2199 {
+    if year < FIRST_CALENDAR_YEAR || year > LAST_CALENDAR_YEAR {
         return None;
     }
-    let from = Day::first_of_month((year - 1900) * 12);
+    let from = Day::first_of_month((year - FIRST_CALENDAR_YEAR) * 12);
     let to = Day::from_number(LAST_NUMBER)?;
     Some(Window { from, to })
 }

@@ -5,6 +5,7 @@ use Rattle.std.proofs.Common.{true, false}
 use Rattle.std.specs.List.{sum_by}
 use Rattle.std.proofs.lemmas.Bool.{cases_Bool}
 use Rattle.std.proofs.lemmas.List.Sums.{sum_by-append, sum_by-cons}
+use Rattle.ftd_rules.specs.declared.TheConstants.{AMOUNTS_END}
 use Rattle.ftd_ports.specs.Writing.{WritesPrefix}
 use Rattle.ftd_rules.specs.Verdicts.{amount_of}
 use Rattle.ftd_rules.specs.declared.verdict.DueRow.{DueRow}
@@ -13,7 +14,6 @@ use Rattle.ftd_answers.specs.DueTexts.{BreaksAt, BreaksIn, HasRows, TakesRow, wr
 use Rattle.ftd_answers.specs.declared.due_texts.DueText.{DueText}
 use Rattle.ftd_answers.proofs.RowFacts.{first_part}
 use Rattle.ftd_machine.specs.Checks.{Answer}
-use Rattle.ftd_machine.specs.Limits.{amounts_end}
 use Rattle.ftd_machine.specs.Runs.{IsFault}
 use Rattle.ftd_machine.specs.Refusals.{is_failure}
 use Rattle.ftd_machine.specs.declared.replies.Refusal.{Refusal}
@@ -60,7 +60,7 @@ module _ {W : Type 0} (taken : W → Option (List ℕ)) (start : Option (List �
 
 -- the amounts of the rows come to the bound
 pub come_to : (first rest : List DueRow) (row : DueRow)
-    → amounts_end ≤ sum_by amount_of first + amount_of row → amounts_end ≤ sum_by amount_of
+    → AMOUNTS_END ≤ sum_by amount_of first + amount_of row → AMOUNTS_END ≤ sum_by amount_of
     (first ++ row ∷ rest)
 come_to first rest row over =
     let parts = sum_by-append amount_of first (row ∷ rest) in

@@ -12,6 +12,7 @@ use Rattle.std.proofs.lemmas.List.Elements.{All-map, All-weaker}
 use Rattle.std.proofs.lemmas.List.Sums.{sum_by-le}
 use Rattle.std.proofs.lemmas.Option.{same_Some}
 use Rattle.std.proofs.lemmas.Bool.{and_parts}
+use Rattle.ftd_machine.specs.declared.limits.TheConstants.{MOST_ENTRIES}
 use Rattle.ftd_days.specs.Calendar.{month_of, year_of, year_start}
 use Rattle.ftd_days.proofs.Months.{early_year, in_month, month_start-mono}
 use Rattle.ftd_rules.specs.declared.DaySum.{DaySum}
@@ -31,7 +32,7 @@ use Rattle.ftd_verbs.specs.Asked.{◌>>=◌, post}
 use Rattle.ftd_verbs.specs.Fields.{needed}
 use Rattle.ftd_verbs.specs.declared.field.Field.TheVariants as field
 use Rattle.ftd_program.specs.Plain.{AtFault, FirstFault, IsCalendar, IsLookedAt, PlainFails, Run}
-use Rattle.ftd_program.specs.Plain.{SaidRun, day_sum, enters, is_taken, malformed, most_runs}
+use Rattle.ftd_program.specs.Plain.{SaidRun, day_sum, enters, is_taken, malformed}
 use Rattle.ftd_program.specs.Plain.{run_records, run_said, taken, taken_run}
 use Rattle.ftd_program.specs.declared.fault.PlainFault.{PlainFault}
 use Rattle.ftd_program.specs.declared.fault.PlainFault.TheVariants as fault
@@ -228,8 +229,8 @@ sums_small account year csv entries sums all e =
     (All-weaker IsSmall (λ (kept : PayRun). (sum_of kept).cents.0 ≤ 299_999_999_997) sum_small
     (values_of entries) (kept_small account year csv entries all)))
 
-pub sums_few : (entries : List (ℕ × PayRun)) (sums : List DaySum) → length entries ≤ most_runs
-    → sums ≡ map sum_of (values_of entries) → length sums ≤ most_runs
+pub sums_few : (entries : List (ℕ × PayRun)) (sums : List DaySum) → length entries ≤ MOST_ENTRIES
+    → sums ≡ map sum_of (values_of entries) → length sums ≤ MOST_ENTRIES
 sums_few entries sums few e =
     let long = ap length e in
     let a = length-map (values_of entries) sum_of in
@@ -246,7 +247,7 @@ lies_in line sums late all =
     (λ sum e. let within = days_in_year line.year sum.day late e in
     (line, inl refl, within.0, within.1)) sums all
 
-pub whole_sum : (sums : List DaySum) → length sums ≤ most_runs
+pub whole_sum : (sums : List DaySum) → length sums ≤ MOST_ENTRIES
     → All (λ (sum : DaySum). sum.cents.0 ≤ 299_999_999_997) sums
     → sum_by sum_cents sums < 6_000_000_000_000_000
 whole_sum sums few small = let bound = sum_by-le sum_cents 299_999_999_997 sums small in omega arith

@@ -12,6 +12,7 @@ use Rattle.std.proofs.lemmas.List.{append-nil, get_or-map, length-map}
 use Rattle.std.proofs.lemmas.List.Elements.{filter_map-append}
 use Rattle.std.proofs.lemmas.Map.Keys.{below_from_sorted}
 use Rattle.std.proofs.lemmas.Slice.Eq.{bytes_eq-Decides}
+use Rattle.ftd_machine.specs.declared.limits.TheConstants.{MOST_ENTRIES}
 use Rattle.ftd_days.specs.Calendar.{year_of}
 use Rattle.ftd_rules.specs.Lists.{Has}
 use Rattle.ftd_csv.specs.Places.{Advances, Opens, said_at}
@@ -20,7 +21,7 @@ use Rattle.ftd_csv.specs.declared.reading.Records.{Records}
 use Rattle.ftd_csv.specs.declared.sheets.Sheet.{Sheet}
 use Rattle.ftd_csv.proofs.Left.{said_first, said_next}
 use Rattle.ftd_program.specs.Plain.{AreCounted, AtFault, NoneAtFault, Run, RunFault, SaidRun}
-use Rattle.ftd_program.specs.Plain.{enters, is_taken, malformed, most_runs, run_said, taken}
+use Rattle.ftd_program.specs.Plain.{enters, is_taken, malformed, run_said, taken}
 use Rattle.ftd_program.specs.Plain.{taken_run}
 use Rattle.ftd_program.specs.Taking.{HasTaken, RefusesRecord, RefusesRun, StopsAtFault, TakesAll}
 use Rattle.ftd_program.specs.Taking.{TakesRecord, TakesRun, run_of, runs_left, runs_of}
@@ -337,8 +338,8 @@ taken_stops account year records (enters run) left number entries f sorted h ref
       })
     ]
 
-few_more : (entries new : List (ℕ × PayRun)) (run : Run) → length entries ≤ most_runs
-    → TakesRun entries run.number run.run new → length new ≤ most_runs
+few_more : (entries new : List (ℕ × PayRun)) (run : Run) → length entries ≤ MOST_ENTRIES
+    → TakesRun entries run.number run.run new → length new ≤ MOST_ENTRIES
 few_more entries new run few (inl (found, keeps)) = let long = ap length keeps in omega arith
 few_more entries new run few (inr (none, fewer, adds)) =
     let long = ap length adds in

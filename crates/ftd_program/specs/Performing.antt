@@ -16,9 +16,7 @@ use Rattle.ftd_machine.specs.declared.requests.Request.{Request}
 use Rattle.ftd_machine.specs.Step.{with_number}
 use Rattle.ftd_machine.specs.Questions.{question_of}
 use Rattle.ftd_machine.specs.declared.requests.Question.{Question as Questions}
-use Rattle.ftd_machine.specs.declared.requests.Question.TheVariants.{Status, Explain, DueList}
-use Rattle.ftd_machine.specs.declared.requests.Question.TheVariants.{ScheduleB, Agenda, Owed, Kept}
-use Rattle.ftd_machine.specs.declared.requests.Question.TheVariants.{Unapplied}
+use Rattle.ftd_machine.specs.declared.requests.Question.TheVariants.{DueList}
 use Rattle.ftd_machine.specs.declared.requests.Request.TheVariants.{Question}
 use Rattle.ftd_questions.specs.Shown.{ShowsRows}
 use Rattle.ftd_questions.specs.Telling.{Replies, Refuses}
@@ -258,23 +256,9 @@ module _ {S O E : Type 0} (g : store.Ghosts S) (o_taken : O → Option (List ℕ
 
   -- every other reply is printed when it is there
   abbrev pub AsksBy : Desk S → Desk S → List ℕ → Format → Request → Option Questions → Type 0
-  AsksBy old new db format request None = AnswersThenNotes old new db format request
-  AsksBy old new db format request (Some (Status account day)) =
-      AnswersThenNotes old new db format request
-  AsksBy old new db format request (Some (Explain account day)) =
-      AnswersThenNotes old new db format request
   AsksBy old new db format request (Some (DueList account quarter as_of)) =
       AsksDue old new db (list_format format) format request account quarter as_of
-  AsksBy old new db format request (Some (ScheduleB account quarter)) =
-      AnswersThenNotes old new db format request
-  AsksBy old new db format request (Some (Agenda from to as_of)) =
-      AnswersThenNotes old new db format request
-  AsksBy old new db format request (Some (Owed until as_of)) =
-      AnswersThenNotes old new db format request
-  AsksBy old new db format request (Some (Unapplied until)) =
-      AnswersThenNotes old new db format request
-  AsksBy old new db format request (Some (Kept asked)) =
-      AnswersThenNotes old new db format request
+  AsksBy old new db format request other = AnswersThenNotes old new db format request
 
   abbrev pub Asks : Desk S → Desk S → List ℕ → Format → Request → Type 0
   Asks old new db format request = AsksBy old new db format request (question_of request)

@@ -26,10 +26,6 @@ use Rattle.ftd_machine.specs.declared.requests.Request.TheVariants as request
 use Rattle.ftd_program.specs.declared.fault.PlainFault.{PlainFault}
 use Rattle.ftd_program.specs.declared.fault.PlainFault.TheVariants as fault
 
--- the most runs of an account
-abbrev pub most_runs : ℕ
-most_runs = MOST_ENTRIES
-
 -- the holidays are a calendar of the year and the next: days of these years that rise, at most 60
 -- of each
 pub record IsCalendar (year : ℕ) (holidays : List ℕ) : Type 0 where
@@ -85,7 +81,7 @@ RunFault before run (fault.RunDiffers number) =
     × ((other : Run) × Contains before other × (other.number ≡ run.number) × (other ≢ run))
 RunFault before run fault.TooManyRuns =
     ((other : Run) → Contains before other → other.number ≢ run.number)
-    × ((counted : List Run) × AreCounted before counted × (length counted ≡ most_runs))
+    × ((counted : List Run) × AreCounted before counted × (length counted ≡ MOST_ENTRIES))
 RunFault before run other = ⊥
 
 -- a record is at fault, given the records before it. Records are numbered from 1, and the header is

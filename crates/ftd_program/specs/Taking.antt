@@ -5,13 +5,14 @@ use Rattle.std.specs.Prelude.{true, MatchBool, Contains, ◌↔◌, ◌++◌}
 use Rattle.std.specs.Map.{lookup}
 use Rattle.std.specs.BTreeMap.{is_at, insert_entry}
 use Rattle.std.specs.Ordering.{nat_cmp}
+use Rattle.ftd_machine.specs.declared.limits.TheConstants.{MOST_ENTRIES}
 use Rattle.ftd_rules.specs.declared.DaySum.{DaySum}
 use Rattle.ftd_rules.specs.declared.run.PayRun.{PayRun}
 use Rattle.ftd_rules.specs.Liability.{run_liability}
 use Rattle.ftd_csv.specs.Places.{said_left}
 use Rattle.ftd_csv.specs.declared.reading.Records.{Records}
 use Rattle.ftd_program.specs.Plain.{FirstFault, IsCalendar, NoneAtFault, Run, SaidRun, enters}
-use Rattle.ftd_program.specs.Plain.{is_taken, malformed, most_runs, run_said, taken}
+use Rattle.ftd_program.specs.Plain.{is_taken, malformed, run_said, taken}
 use Rattle.ftd_program.specs.declared.fault.PlainFault.{PlainFault}
 use Rattle.ftd_program.specs.declared.fault.PlainFault.TheVariants as fault
 
@@ -29,7 +30,7 @@ runs_of account entries = map (run_of account) entries
 abbrev pub TakesRun : List (ℕ × PayRun) → ℕ → PayRun → List (ℕ × PayRun) → Type 0
 TakesRun old number run new =
     ((lookup (is_at (nat_cmp number)) old ≡ Some run) × (new ≡ old))
-    ⊎ ((lookup (is_at (nat_cmp number)) old ≡ None) × (length old < most_runs)
+    ⊎ ((lookup (is_at (nat_cmp number)) old ≡ None) × (length old < MOST_ENTRIES)
     × (new ≡ insert_entry nat_cmp old number run))
 
 abbrev pub RefusesRun : List (ℕ × PayRun) → ℕ → PayRun → PlainFault → Type 0
@@ -37,7 +38,7 @@ RefusesRun old number run (fault.RunDiffers other) =
     (other ≡ number) × (kept : PayRun) × (lookup (is_at (nat_cmp number)) old ≡ Some kept)
     × (kept ≢ run)
 RefusesRun old number run fault.TooManyRuns =
-    (lookup (is_at (nat_cmp number)) old ≡ None) × (length old ≡ most_runs)
+    (lookup (is_at (nat_cmp number)) old ≡ None) × (length old ≡ MOST_ENTRIES)
 RefusesRun old number run fault.Memory = ⊤
 RefusesRun old number run other = ⊥
 
@@ -61,7 +62,7 @@ pub record HasTaken (account : List ℕ) (year : ℕ) (records left : List SaidR
   pub none_at_fault : NoneAtFault account year before
   pub same : (run : Run)
       → Contains (runs_of account entries) run ↔ Contains (taken account year before) run
-  pub few : length entries ≤ most_runs
+  pub few : length entries ≤ MOST_ENTRIES
 
 -- what a kept run adds to the liability of its payday
 abbrev pub sum_of : PayRun → DaySum
@@ -83,7 +84,7 @@ pub record TakesAll (account : List ℕ) (year : ℕ) (records : List SaidRun)
   pub none_at_fault : NoneAtFault account year records
   pub same : (run : Run)
       → Contains (runs_of account entries) run ↔ Contains (taken account year records) run
-  pub few : length entries ≤ most_runs
+  pub few : length entries ≤ MOST_ENTRIES
 
 -- why the holidays are no calendar
 abbrev pub CalendarFails : ℕ → List ℕ → PlainFault → Type 0

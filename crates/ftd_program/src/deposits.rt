@@ -5,7 +5,7 @@ ghost use Rattle.std.specs.BTreeMap.{values};
 ghost use Rattle.std.specs.List.{flat_map};
 ghost use Rattle.ftd_days.specs.Calendar.{year_of};
 ghost use Rattle.ftd_days.specs.Holidays.{holidays_of};
-ghost use Rattle.ftd_program.specs.Plain.{PlainFails, PlainGives, Prints, line_text, most_runs};
+ghost use Rattle.ftd_program.specs.Plain.{PlainFails, PlainGives, Prints, line_text};
 ghost use Rattle.ftd_program.specs.Taking.{IsSmall, sum_of};
 
 use crate::calendar::calendar;
@@ -13,6 +13,7 @@ use crate::fault::PlainFault;
 use crate::runs::take_records;
 use ftd_csv::{MOST_BYTES, Records, Sheet};
 use ftd_days::{Cents, Day, FIRST_YEAR, Holidays, LAST_OPEN_YEAR};
+use ftd_machine::MOST_ENTRIES;
 use ftd_rules::{DaySum, Form, Kind, Obligation, PayRun, YearLine, assess};
 use std::alloc::{AllocError, Global};
 use std::collections::BTreeMap;
@@ -82,7 +83,7 @@ fn deposits(
 ) -> Result<Vec<u8>, AllocError>
     requires from { FIRST_YEAR ≤ year }
     requires to { year ≤ LAST_OPEN_YEAR }
-    requires few { length sums.now ≤ most_runs }
+    requires few { length sums.now ≤ MOST_ENTRIES }
     requires in_year { All (λ sum. year_of sum.day ≡ year) sums.now }
     requires small { All (λ sum. sum.cents.0 ≤ 299_999_999_997) sums.now }
     ensures { IfOk result (λ text. Prints year (holidays_of holidays.now) sums.now text.items) }

@@ -6,7 +6,7 @@ ghost use Rattle.std.specs.Ordering.{nat_cmp};
 ghost use Rattle.std.specs.Str.{bytes_eq};
 ghost use Rattle.ftd_days.specs.Calendar.{year_of};
 ghost use Rattle.ftd_csv.specs.Places.{CanAdvance, number_of};
-ghost use Rattle.ftd_program.specs.Plain.{most_runs, run_said};
+ghost use Rattle.ftd_program.specs.Plain.{run_said};
 ghost use Rattle.ftd_program.specs.Taking.{RefusesRecord, RefusesRun, StopsAtFault, TakesAll};
 ghost use Rattle.ftd_program.specs.Taking.{TakesRecord, TakesRun, runs_left};
 
@@ -27,7 +27,7 @@ fn is_taken(employer: &AccountName, run: &PayRun, account: &str, year: u32) -> b
 /// Takes a run of the account.
 fn take_run(runs: &mut BTreeMap<u32, PayRun>, number: u32, run: &PayRun) -> Result<(), PlainFault>
     requires ordered { IsOrdered nat_cmp runs.old }
-    requires few { length runs.old.entries ≤ most_runs }
+    requires few { length runs.old.entries ≤ MOST_ENTRIES }
     ensures ordered { IsOrdered nat_cmp runs.new }
     ensures takes { MatchResult result
         (λ _. TakesRun runs.old.entries number run.now runs.new.entries)
@@ -53,7 +53,7 @@ fn take_content(
     year: u32,
 ) -> Result<(), PlainFault>
     requires ordered { IsOrdered nat_cmp runs.old }
-    requires few { length runs.old.entries ≤ most_runs }
+    requires few { length runs.old.entries ≤ MOST_ENTRIES }
     ensures ordered { IsOrdered nat_cmp runs.new }
     ensures takes { MatchResult result
         (λ _. TakesRecord account.now year runs.old.entries (run_said content.now) runs.new.entries)

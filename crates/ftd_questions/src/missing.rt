@@ -18,7 +18,7 @@ use crate::faults::refusal_of;
 use ftd_days::{Cents, Day, FIRST_YEAR, LAST_OPEN_YEAR, Quarter};
 use ftd_entries::{enrolment, known_account};
 use ftd_machine::{Account, Refusal};
-use ftd_rules::{PayRun, Payment, Voidable, YearLine};
+use ftd_rules::{PayRun, Payment, Voidable, YearLine, lookback_start};
 use ftd_store::{Store, StoreFault, Tx};
 use sqlite::Alter;
 use std::alloc::{AllocError, Global};
@@ -53,7 +53,7 @@ fn missing_in<S: Alter>(
     requires to { year ≤ LAST_OPEN_YEAR }
     ensures call { Reads S.Store tx.old tx.new result (KnowsMissing name.now first year) }
 {
-    let quarters = 4 * (year - 2 - 1900) + 2;
+    let quarters = lookback_start(year);
     let (third, fourth) = (Quarter::at(quarters), Quarter::at(quarters + 1));
     let (next, last) = (Quarter::at(quarters + 2), Quarter::at(quarters + 3));
     let found = [

@@ -13,7 +13,7 @@ ghost use Rattle.ftd_questions.specs.Walks.{Stays, StaysIfSettled, StandIfOpen};
 ghost use Rattle.ftd_questions.specs.Walks.{KnowsNextDay, KnowsNextDayOfReturn};
 
 use crate::due_rows::is_next_day;
-use ftd_days::{LAST_OPEN_YEAR, Quarter};
+use ftd_days::{LAST_OPEN_YEAR, QUARTERS, Quarter};
 use ftd_rules::Form;
 use ftd_store::{Store, StoreFault, next_obligation, rows_of};
 use sqlite::{Alter, Connection, Rows};
@@ -60,7 +60,7 @@ fn begins_next_day<S: Alter>(
 fn quarters_of_return(form: Form, quarter: Quarter) -> (u32, u32)
     requires { quarter_year quarter ≤ LAST_OPEN_YEAR }
     ensures some { result.0 < result.1 }
-    ensures end { result.1 < 1200 }
+    ensures end { result.1 < QUARTERS }
     ensures same { (day : ℕ) → (return_period_of form day ≡ return_period form quarter)
         ↔ ((result.0 ≤ quarter_of day) × (quarter_of day < result.1)) }
 {

@@ -1,5 +1,5 @@
 -- Where 20 obligations or fewer were added, each has its line.
-use Rattle.std.proofs.Common.{◌≡◌, ◌≤◌, List, [], ◌++◌, length, sym}
+use Rattle.std.proofs.Common.{◌≡◌, ◌≤◌, List, length, sym}
 use Rattle.std.specs.List.{flat_map}
 use Rattle.std.proofs.lemmas.List.{append-nil, drop_all, take_all}
 use Rattle.ftd_rules.specs.declared.Obligation.{Obligation}

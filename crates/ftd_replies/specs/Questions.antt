@@ -3,9 +3,8 @@ use Rattle.std.specs.Prelude.{List, ℕ, codes}
 use Rattle.ftd_machine.specs.declared.requests.KeptList.{KeptList}
 use Rattle.ftd_machine.specs.declared.requests.KeptList.TheVariants as kept
 use Rattle.ftd_machine.specs.declared.requests.Question.{Question}
-use Rattle.ftd_machine.specs.declared.requests.Question.TheVariants.{Status, Explain, DueList}
-use Rattle.ftd_machine.specs.declared.requests.Question.TheVariants.{ScheduleB, Agenda, Owed, Kept}
-use Rattle.ftd_machine.specs.declared.requests.Question.TheVariants.{Unapplied}
+use Rattle.ftd_machine.specs.declared.requests.Question.TheVariants.{Agenda, DueList, Kept}
+use Rattle.ftd_machine.specs.declared.requests.Question.TheVariants.{Owed, Unapplied}
 
 abbrev pub paydays_years : List ℕ
 paydays_years = codes "hint: the years of paydays are 2001 to 2098\n"
@@ -28,13 +27,8 @@ abbrev agenda_days : List ℕ
 agenda_days = codes "hint: an agenda is of days of 2001 to 2099\n"
 
 abbrev pub days_asked : Question → List ℕ
-days_asked (Status account day) = paydays_days
-days_asked (Explain account day) = paydays_days
-days_asked (DueList account quarter as_of) =
-    codes "hint: ASOF must be in 2001 to 2099\n"
-days_asked (ScheduleB account quarter) = paydays_days
+days_asked (DueList account quarter as_of) = codes "hint: ASOF must be in 2001 to 2099\n"
 days_asked (Agenda from to as_of) = agenda_days
 days_asked (Owed until as_of) = agenda_days
-days_asked (Unapplied until) =
-    codes "hint: UNTIL must be in 2001 to 2099\n"
-days_asked (Kept asked) = paydays_days
+days_asked (Unapplied until) = codes "hint: UNTIL must be in 2001 to 2099\n"
+days_asked other = paydays_days

@@ -19,7 +19,7 @@ ghost use Rattle.ftd_replies.specs.Hints.{total_otherwise};
 
 use crate::differing::{Differing, write_difference};
 use crate::enrolment::{Enrolment, write_enrolment};
-use crate::questions::{days_asked, years_asked};
+use crate::questions::{CALENDARS_YEARS, PAYDAYS_DAYS, PAYDAYS_YEARS, days_asked, years_asked};
 use crate::refusals::write_refusal;
 use ftd_answers::{day_bytes, quarter_bytes};
 use ftd_days::{Day, Quarter};
@@ -211,16 +211,14 @@ fn years_said(request: &Request) -> &'static [u8]
     ensures { result.now ≡ years_text request.now }
 {
     match request {
-        Request::Enter(Entry::Calendar { .. }) => {
-            b"hint: the years of calendars are 2001 to 2099\n"
-        }
+        Request::Enter(Entry::Calendar { .. }) => { CALENDARS_YEARS }
         Request::Enter(Entry::Total { .. })
         | Request::Correct {
             correction: Correction::Total { .. },
             ..
         } => b"hint: the years of reported totals are 1999 to 2098\n",
         Request::Question(question) => years_asked(question),
-        _ => b"hint: the years of paydays are 2001 to 2098\n",
+        _ => PAYDAYS_YEARS,
     }
 }
 
@@ -243,7 +241,7 @@ fn days_said(request: &Request) -> &'static [u8]
             b"hint: a payment is made in 2001 to 2099, for a day of 2001 to 2098\n"
         }
         Request::Question(question) => days_asked(question),
-        _ => b"hint: the days of paydays are those of 2001 to 2098\n",
+        _ => PAYDAYS_DAYS,
     }
 }
 

@@ -1,11 +1,11 @@
 -- What a holiday that is added does to due dates.
-use Rattle.std.proofs.Common.{◌≡◌, ◌≢◌, ℕ, zero, suc, ◌+◌, ◌-◌, ◌<◌, ◌≤◌, ◌↔◌, ◌⊎◌, inl, inr, List}
+use Rattle.std.proofs.Common.{◌≡◌, ◌≢◌, ℕ, zero, suc, ◌+◌, ◌-◌, ◌≤◌, ◌↔◌, ◌⊎◌, inl, inr, List}
 use Rattle.std.proofs.Common.{true, false, not, ◌&&◌, ◌||◌, refl, sym, ap, ◌∙◌, arith}
 use Rattle.std.specs.Prelude.{nat_lt}
 use Rattle.std.specs.List.{AllZip}
 use Rattle.std.proofs.lemmas.Bool.{false≢true, cases_Bool, cases_lt}
 use Rattle.std.proofs.Math.Bool.{or-false, or-true, and-false}
-use Rattle.ftd_days.specs.Calendar.{weekday_of, month_of, month_start, last_day}
+use Rattle.ftd_days.specs.Calendar.{weekday_of, month_of, month_start}
 use Rattle.ftd_days.specs.Private.Intervals.{interval_close}
 use Rattle.ftd_days.specs.Business.{is_holiday, is_business, IsOnOrAfter, business_days, IsNthAfter}
 use Rattle.ftd_days.specs.Holidays.{IsWithHoliday}
@@ -21,7 +21,7 @@ use Rattle.ftd_rules.specs.Laws.{IsMovedBy}
 use Rattle.ftd_rules.specs.Private.Due.{IsDueBy, IsCountedBy}
 use Rattle.ftd_rules.specs.Private.Obligations.{IsOwedPiece, AreOwedPieces}
 use Rattle.ftd_rules.proofs.DueDates.{due_some}
-use Rattle.ftd_rules.proofs.Resting.{due_same, from_later, obligation_same}
+use Rattle.ftd_rules.proofs.Resting.{obligation_same}
 use Rattle.ftd_rules.proofs.Rising.{paired}
 use Rattle.ftd_rules.proofs.Stated.{counted_stated}
 
@@ -163,19 +163,6 @@ due_moves before after added Semiweekly last due new with h k = nth_moves before
     (interval_close last) 3 due new with h k
 due_moves before after added NextDay last due new with h k =
     nth_moves before after added last 1 due new with h k
-
--- a day before the last one or after the due date moves nothing
-pub due_stays : (before after : List ℕ) (added : ℕ) (rule : Rule) (last due : ℕ)
-    → IsWithHoliday before added after → last ≤ last_day → (added < last) ⊎ (due < added)
-    → IsDueBy before rule last due → IsDueBy after rule last due
-due_stays before after added rule last due with within out h =
-    let from = from_later rule last within in
-    due_same before after rule last due due
-    (λ e l m. with e
-    ∙ (ap (λ z. is_holiday before e || z)
-    (eq_not added e (λ same. elim out [ inl early ↦ omega arith | inr late ↦ omega arith ]))
-    ∙ or-false (is_holiday before e)))
-    (omega arith) h
 
 -- ---- whole lists
 

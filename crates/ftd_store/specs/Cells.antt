@@ -8,7 +8,7 @@ use Rattle.sqlite.specs.Order.{Row}
 use Rattle.sqlite.specs.Values.{or_null}
 use Rattle.sqlite_value.specs.Order.{column}
 use Rattle.ftd_days.specs.declared.cents.Cents.{Cents}
-use Rattle.ftd_days.specs.declared.limits.TheConstants.{LAST_NUMBER}
+use Rattle.ftd_days.specs.declared.limits.TheConstants.{DAYS_TO_1970, LAST_NUMBER}
 use Rattle.ftd_rules.specs.declared.Rule.{Rule}
 use Rattle.ftd_rules.specs.declared.Rule.TheVariants as rule
 use Rattle.ftd_rules.specs.declared.Kind.{Kind}
@@ -27,7 +27,7 @@ use Rattle.ftd_store.specs.declared.year_cells.StoredYear.{StoredYear}
 
 -- days since 1970-01-01
 abbrev pub day_number : ℕ → ℤ
-day_number day = pos day -ℤ pos 25_567
+day_number day = pos day -ℤ DAYS_TO_1970
 
 abbrev pub flag_number : Bool → ℤ
 flag_number b = if b then pos 1 else pos 0
@@ -49,7 +49,7 @@ form_number form.F943 = pos 1
 
 -- a day from 1900-01-01 to 2199-12-31
 abbrev pub IsDayCell : Value → Type 0
-IsDayCell v = (n : ℤ) × (v ≡ Int n) × IsBetween (neg_ℤ (pos 25_567)) LAST_NUMBER n
+IsDayCell v = (n : ℤ) × (v ≡ Int n) × IsBetween (neg_ℤ DAYS_TO_1970) LAST_NUMBER n
 
 abbrev pub IsFlagCell : Value → Type 0
 IsFlagCell v = (b : Bool) × (v ≡ Int (flag_number b))

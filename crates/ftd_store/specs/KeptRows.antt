@@ -4,6 +4,7 @@ use Rattle.sqlite.specs.declared.types.Value.{Value}
 use Rattle.sqlite.specs.declared.types.Value.TheVariants.{Int, Text}
 use Rattle.sqlite.specs.Order.{Row}
 use Rattle.sqlite_value.specs.Order.{column}
+use Rattle.ftd_days.specs.declared.limits.TheConstants.{QUARTERS}
 use Rattle.ftd_days.specs.Calendar.{quarter_year, quarter_number}
 use Rattle.ftd_store.specs.Cells.{account_cells, form_cells, stored_run_cells, stored_payment_cells}
 use Rattle.ftd_store.specs.Cells.{IsTextCell, IsDayCell, IsFlagCell, IsFormCell, IsCountCell}
@@ -50,7 +51,7 @@ IsNamedFormCells row = (length row ≡ 2) × IsTextCell (column row 0) × IsForm
 -- the year and the number of a quarter from 1900 to 2199
 abbrev pub AreQuarterCells : Value → Value → Type 0
 AreQuarterCells v w =
-    (quarter : ℕ) × (quarter < 1200) × (v ≡ Int (pos (quarter_year quarter)))
+    (quarter : ℕ) × (quarter < QUARTERS) × (v ≡ Int (pos (quarter_year quarter)))
     × (w ≡ Int (pos (quarter_number quarter)))
 
 abbrev pub IsQuarterTotalCells : Row → Type 0

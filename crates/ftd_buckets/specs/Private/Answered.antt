@@ -9,7 +9,7 @@ use Rattle.ftd_rules.specs.Years.{year_last, AreOpenYears}
 use Rattle.ftd_buckets.specs.declared.Window.{Window}
 use Rattle.ftd_days.specs.Business.{holidays_end}
 use Rattle.ftd_days.specs.Holidays.{holidays_of}
-use Rattle.ftd_buckets.specs.declared.state.Settled.{Settled}
+use Rattle.ftd_buckets.specs.declared.state.Progress.{Progress}
 use Rattle.ftd_buckets.specs.declared.state.Next.{Next}
 use Rattle.ftd_buckets.specs.declared.state.Next.TheVariants.{Done, Need}
 use Rattle.ftd_buckets.specs.Histories.{History, TurnsWithin}
@@ -50,7 +50,7 @@ pub record IsAtYearEnd (lines : List YearLine) (to year : ℕ) : Type 0 where
 
 -- all up to the end of that year is settled, and `new` is its line after the change, which differs
 pub record IsSettledYear (form : Form) (day : ℕ) (holidays : List ℕ) (before after : History)
-    (s : Settled) (new : YearLine) : Type 0 where
+    (s : Progress) (new : YearLine) : Type 0 where
   pub old : YearLine
   pub common : StandsIn form day holidays before after s.lines.now s.from s.years.items old new
   pub calendar : holidays_of s.holidays.now ≡ holidays

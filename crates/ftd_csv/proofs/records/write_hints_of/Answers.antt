@@ -1,4 +1,4 @@
-use Rattle.std.proofs.Common.{◌≡◌, ◌-◌, [], sym, ap, ◌∙◌, arith}
+use Rattle.std.proofs.Common.{◌≡◌, ◌-◌, [], sym, arith}
 use Rattle.ftd_csv.specs.Places.{Advances}
 use Rattle.ftd_ports.proofs.WritingFacts.{begins, ends, goes_on, stops_after}
 use Rattle.ftd_csv.specs.HintPlaces.{hints_left}

@@ -1,4 +1,4 @@
-use Rattle.std.proofs.Common.{◌≡◌, take, length}
+use Rattle.std.proofs.Common.{◌≡◌, take}
 use Rattle.csv.specs.Records.{fields_of}
 use Rattle.ftd_csv.specs.Sheets.{header_row}
 use Rattle.ftd_csv.proofs.sheets.is_header.Given as goal

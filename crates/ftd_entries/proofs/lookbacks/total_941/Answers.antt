@@ -1,4 +1,4 @@
-use Rattle.std.proofs.Common.{rules}
+use Rattle.std.proofs.Common.{◌∙◌, ◌+◌, ap, rules}
 use Rattle.ftd_machine.specs.State.{entries_of}
 use Rattle.ftd_entries.specs.Totals.{KnowsTotalOn941}
 use Rattle.ftd_entries.proofs.Reading.{fails_after_three, four_told, gives_up_after_four}
@@ -14,6 +14,7 @@ returns-in_err-figure-4 g c = record {
 pub returns-in-Ok : goal.returns-in-Ok
 returns-in-Ok g c =
     let name = c.args.name.now in
+    let start = c.lookback_start-quarters.ensures.value in
     record {
       call = four_told c.in_ok-figure.ensures.call c.in_ok-figure-2.ensures.call
           c.in_ok-figure-3.ensures.call c.in-Ok.total
@@ -21,8 +22,9 @@ returns-in-Ok g c =
           (λ t third fourth first second s keeps once. quarters_known (entries_of s name).reported
           (entries_of s name).corrected c.args.start c.args.year once.0 c.at-third.result
           c.at-fourth.result c.at-first.result c.at-second.result _ _ _ _ (third s keeps)
-          (fourth s keeps) (first s keeps) (second s keeps) c.at-third.ensures c.at-fourth.ensures
-          c.at-first.ensures c.at-second.ensures c.in-Ok.total c.in-Ok.ensures);
+          (fourth s keeps) (first s keeps) (second s keeps) (c.at-third.ensures ∙ start)
+          (c.at-fourth.ensures ∙ ap (λ z. z + 1) start) (c.at-first.ensures ∙ ap (λ z. z + 2) start)
+          (c.at-second.ensures ∙ ap (λ z. z + 3) start) c.in-Ok.total c.in-Ok.ensures);
     }
 
 pub returns-in-Err : goal.returns-in-Err

@@ -1,4 +1,4 @@
-use Rattle.std.proofs.Common.{◌∙◌, rules}
+use Rattle.std.proofs.Common.{◌∙◌, ◌+◌, ap, rules}
 use Rattle.ftd_machine.specs.State.{entries_of}
 use Rattle.ftd_entries.proofs.Kept.{kept_reported}
 use Rattle.ftd_entries.proofs.Reading.{fails_after_three, four_told, gives_up_after_four}
@@ -15,6 +15,7 @@ returns-in_err-reported_total-4 g c = record {
 pub returns-in-Ok : goal.returns-in-Ok
 returns-in-Ok g c =
     let name = c.args.name.now in
+    let start = c.lookback_start-quarters.ensures.value in
     record {
       call = four_told c.in_ok-reported_total.ensures.call c.in_ok-reported_total-2.ensures.call
           c.in_ok-reported_total-3.ensures.call c.in-Ok.quarters
@@ -26,7 +27,9 @@ returns-in-Ok g c =
           (kept_reported name t s stands c.at-fourth.result _ fourth)
           (kept_reported name t s stands c.at-next.result _ next)
           (kept_reported name t s stands c.at-last.result _ last)
-          c.at-third.ensures c.at-fourth.ensures c.at-next.ensures c.at-last.ensures);
+          (c.at-third.ensures ∙ start)
+          (c.at-fourth.ensures ∙ ap (λ z. z + 1) start) (c.at-next.ensures ∙ ap (λ z. z + 2) start)
+          (c.at-last.ensures ∙ ap (λ z. z + 3) start));
     }
 
 pub returns-in-Err : goal.returns-in-Err

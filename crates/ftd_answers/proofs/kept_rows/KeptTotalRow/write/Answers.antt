@@ -1,7 +1,7 @@
 use Rattle.ftd_answers.proofs.kept_rows.KeptTotalRow.write.Goals as goal
 
-pub returns-in-OfQuarter : goal.returns-in-OfQuarter
-returns-in-OfQuarter g c = rw c.in-OfQuarter.is c.write_fields.ensures
+pub returns-in-Quarter : goal.returns-in-Quarter
+returns-in-Quarter g c = rw c.in-Quarter.is c.write_fields.ensures
 
-pub returns-in-OfYear : goal.returns-in-OfYear
-returns-in-OfYear g c = rw c.in-OfYear.is c.write_fields-in-OfYear.ensures
+pub returns-in-Year : goal.returns-in-Year
+returns-in-Year g c = rw c.in-Year.is c.write_fields-in-Year.ensures

@@ -2,7 +2,7 @@ use Rattle.std.proofs.Common.{◌≡◌, sym, ap, ◌∙◌, subst}
 use Rattle.std.specs.Prelude.{IfOk, Result, List}
 use Rattle.ftd_rules.specs.declared.DaySum.{DaySum}
 use Rattle.ftd_buckets.specs.declared.state.Next.{Next}
-use Rattle.ftd_buckets.specs.declared.state.Settled.{Settled}
+use Rattle.ftd_buckets.specs.declared.state.Progress.{Progress}
 use Rattle.ftd_buckets.specs.declared.state.Stage.{Stage}
 use Rattle.ftd_buckets.specs.Ready.{Repairing, repairing}
 use Rattle.ftd_buckets.specs.Private.Answered.{Answers}
@@ -11,7 +11,7 @@ use Rattle.ftd_buckets.proofs.Answering.{answer_done}
 use Rattle.ftd_buckets.proofs.state.Repair.feed.Goals as goal
 
 -- what answers the sums that the stage takes answers those of the repair
-fed : {E : Type 0} (s : Settled) (sums : List DaySum) (answer : Result Next E) {at stage : Stage}
+fed : {E : Type 0} (s : Progress) (sums : List DaySum) (answer : Result Next E) {at stage : Stage}
     {r : Repairing} → at ≡ stage → repairing s at ≡ r
     → IfOk answer (Answers (repairing s stage) sums) → IfOk answer (Answers r sums)
 fed s sums answer is view h =

@@ -5,8 +5,8 @@ use Rattle.ftd_rules.proofs.Items.{head_item}
 use Rattle.ftd_buckets.specs.declared.state.Stage.TheVariants as stage
 use Rattle.ftd_buckets.proofs.Openings.{kinds_same, kinds_differ}
 use Rattle.ftd_buckets.proofs.Onward.{next_line, onward_done, onward_last, onward_next}
-use Rattle.ftd_buckets.proofs.state.Settled.after_year.Goals as goal
-use Rattle.ftd_buckets.proofs.state.Settled.after_year.Goals.{in-Some+else-ne, in_default}
+use Rattle.ftd_buckets.proofs.state.Progress.after_year.Goals as goal
+use Rattle.ftd_buckets.proofs.state.Progress.after_year.Goals.{in-Some+else-ne, in_default}
 
 pub first_day-requires-clause-to : goal.first_day-requires-clause-to
 first_day-requires-clause-to c =

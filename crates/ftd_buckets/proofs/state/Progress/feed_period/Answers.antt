@@ -8,7 +8,7 @@ use Rattle.ftd_rules.specs.declared.YearLine.{YearLine}
 use Rattle.ftd_rules.specs.Liability.{liability, cents_of}
 use Rattle.ftd_rules.specs.Private.Years.{semiweekly_from}
 use Rattle.ftd_rules.specs.Private.Walk.{due_date, AreOwed, periods}
-use Rattle.ftd_buckets.specs.declared.state.Settled.{Settled}
+use Rattle.ftd_buckets.specs.declared.state.Progress.{Progress}
 use Rattle.ftd_buckets.specs.declared.state.Stage.TheVariants as stage
 use Rattle.ftd_buckets.specs.declared.state.Next.{Next}
 use Rattle.ftd_buckets.specs.declared.turn.TurnNow.{TurnNow}
@@ -26,16 +26,16 @@ use Rattle.ftd_buckets.proofs.Chain.{year_change}
 use Rattle.ftd_buckets.proofs.Split.{ready_whole, read_whole}
 use Rattle.ftd_buckets.proofs.Fed.{if_ok2}
 use Rattle.ftd_buckets.proofs.Kept.{kept_done}
-use Rattle.ftd_buckets.proofs.state.Settled.feed_period.Goals as goal
+use Rattle.ftd_buckets.proofs.state.Progress.feed_period.Goals as goal
 
 -- what is told of the turn, for the histories
-abbrev Tells : Settled → List DaySum → YearLine → TurnNow → Type 0
+abbrev Tells : Progress → List DaySum → YearLine → TurnNow → Type 0
 Tells s sums line result = (before after : ℕ → ℕ → ℕ) (day : ℕ) (new : YearLine)
     → IsYearChange before after day line new → s.asked.from ≤ day → day ≤ s.asked.to
     → ((a b : ℕ) → s.asked.from ≤ a → b ≤ s.asked.to → after a b ≡ liability sums a b)
     → IsTurnNow line new s.asked.to result
 
-told : (s : Settled) (sums : List DaySum) (line : YearLine) (result : TurnNow)
+told : (s : Progress) (sums : List DaySum) (line : YearLine) (result : TurnNow)
     → Tells s sums line result
     → (day : ℕ) (holidays : List ℕ) (before after : History)
     → (st : Stands s.form day holidays before after (repairing s stage.Period))
@@ -51,7 +51,7 @@ told s sums line result h day holidays before after st agree e =
     agree)
 
 -- where the turn differs, what serves under it answers
-turned : {E : Type 0} (s : Settled) (sums : List DaySum) (given : YearLine) (turn : Option ℕ)
+turned : {E : Type 0} (s : Progress) (sums : List DaySum) (given : YearLine) (turn : Option ℕ)
     (answer : Result Next E) → (h : IsReady (repairing s stage.Period)) → given ≡ h.line
     → Tells s sums given (now.Changed turn)
     → IfOk answer (Holds s.form (sum_by cents_of s.held.items + sum_by cents_of sums))
@@ -92,7 +92,7 @@ add_rows-requires-clause-whole c = read_whole c.args.self c.requires.ready _
 pub returns-in_ok-add_rows-in-Kept : goal.returns-in_ok-add_rows-in-Kept
 returns-in_ok-add_rows-in-Kept c =
     let h = c.requires.ready in
-    let s : Settled = c.args.self in
+    let s : Progress = c.args.self in
     let sums = c.args.sums.now in
     let rows = c.in_ok-add_rows-in-Kept.ensures.rows in
     record {
@@ -131,7 +131,7 @@ returns-in-Changed-2 c =
 pub turn_now-requires-clause-period : goal.turn_now-requires-clause-period
 turn_now-requires-clause-period c =
     let h = c.requires.ready in
-    let s : Settled = c.args.self in (
+    let s : Progress = c.args.self in (
       s.form,
       subst (λ (z : YearLine). IsPeriod s.form z s.asked.from s.asked.to)
           (sym (line_read h c.index-self-0.result)) h.at.0,

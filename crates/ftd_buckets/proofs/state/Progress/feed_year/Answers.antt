@@ -3,7 +3,7 @@ use Rattle.std.specs.List.{sum_by}
 use Rattle.ftd_rules.specs.declared.YearLine.{YearLine}
 use Rattle.ftd_rules.specs.Liability.{cents_of}
 use Rattle.ftd_rules.specs.Years.{basis_of}
-use Rattle.ftd_buckets.specs.declared.state.Settled.{Settled}
+use Rattle.ftd_buckets.specs.declared.state.Progress.{Progress}
 use Rattle.ftd_buckets.specs.declared.state.Stage.TheVariants as stage
 use Rattle.ftd_buckets.specs.declared.state.Next.{Next}
 use Rattle.ftd_buckets.specs.Histories.{History}
@@ -12,20 +12,20 @@ use Rattle.ftd_buckets.specs.Private.Answered.{Answers, Serves, Holds, IsSettled
 use Rattle.ftd_buckets.proofs.Begun.{line_read, read_to}
 use Rattle.ftd_buckets.proofs.Onward.{same_line}
 use Rattle.ftd_buckets.proofs.Fed.{if_ok2, holds_more, year_settled}
-use Rattle.ftd_buckets.proofs.state.Settled.feed_year.Goals as goal
+use Rattle.ftd_buckets.proofs.state.Progress.feed_year.Goals as goal
 
 pub add_year-requires-clause-to : goal.add_year-requires-clause-to
 add_year-requires-clause-to c = read_to c.requires.ready _
 
 pub returns : goal.returns
 returns c =
-    let s : Settled = c.args.self in
+    let s : Progress = c.args.self in
     let sums = c.args.sums.now in
     let h = c.requires.ready in
     let x = line_read h c.index-self-0.result in
     let new : YearLine = c.in_ok-new.new in
     let rows = c.in_ok-new.ensures.rows in
-    let t : Settled = record s { rows = c.add_year.new.rows } in
+    let t : Progress = record s { rows = c.add_year.new.rows } in
     if_ok2 (Holds c.args.self.form (sum_by cents_of s.held.items))
     (λ (next : Next). (day : ℕ) (holidays : List ℕ) (before after : History)
     → IsSettledYear c.args.self.form day holidays before after t new

@@ -10,7 +10,7 @@ use Rattle.ftd_rules.specs.Liability.{liability, cents_of, SumsRise}
 use Rattle.ftd_rules.specs.Years.{IsTurnOf}
 use Rattle.ftd_rules.specs.Private.Walk.{due_date, AreOwed, periods}
 use Rattle.ftd_rules.specs.Private.Years.{semiweekly_from}
-use Rattle.ftd_buckets.specs.declared.state.Settled.{Settled}
+use Rattle.ftd_buckets.specs.declared.state.Progress.{Progress}
 use Rattle.ftd_buckets.specs.declared.state.Stage.TheVariants as stage
 use Rattle.ftd_buckets.specs.declared.state.Next.{Next}
 use Rattle.ftd_buckets.specs.Histories.{History, TurnsWithin}
@@ -21,10 +21,10 @@ use Rattle.ftd_buckets.proofs.Begun.{ready_line, line_read, read_to}
 use Rattle.ftd_buckets.proofs.Onward.{same_line}
 use Rattle.ftd_buckets.proofs.Fed.{if_ok2, holds_more}
 use Rattle.ftd_buckets.proofs.Rest.{Found, all_rise, rest_turn, rest_whole, rest_settled}
-use Rattle.ftd_buckets.proofs.state.Settled.feed_rest.Goals as goal
+use Rattle.ftd_buckets.proofs.state.Progress.feed_rest.Goals as goal
 
 -- the sums that are held by then rise from the first day of the open period
-held_rise : (s : Settled) (first : ℕ) (turn : Option ℕ) (sums : List DaySum)
+held_rise : (s : Progress) (first : ℕ) (turn : Option ℕ) (sums : List DaySum)
     → IsReady (repairing s (stage.Rest first turn)) → SumsRise s.asked.from s.asked.to sums
     → SumsRise first s.asked.to (s.held.items ++ sums)
 held_rise s first turn sums h rise =
@@ -32,7 +32,7 @@ held_rise s first turn sums h rise =
     all_rise s.form h.line s.asked s.held.items first turn sums l.0 l.1 h.at rise
 
 -- and tell of the turn
-found_in : (s : Settled) (first : ℕ) (turn now : Option ℕ) (sums read : List DaySum)
+found_in : (s : Progress) (first : ℕ) (turn now : Option ℕ) (sums read : List DaySum)
     → (h : IsReady (repairing s (stage.Rest first turn))) → read ≡ s.held.items ++ sums
     → MatchOption turn (IsTurnOf (liability read) first s.asked.to now) (λ t. now ≡ Some t)
     → Found s.form h.line s.asked s.held.items first turn (s.held.items ++ sums) now
@@ -75,7 +75,7 @@ add_rows-requires-clause-whole c =
 pub returns : goal.returns
 returns c =
     let h = c.requires.ready in
-    let s : Settled = c.args.self in
+    let s : Progress = c.args.self in
     let sums = c.args.sums.now in
     let all : List DaySum = s.held.items ++ sums in
     let now = c.turn_from-turn.result in
@@ -90,7 +90,7 @@ returns c =
     + sum_by cents_of sums =
     ap (sum_by cents_of) c.in_ok-extend_from_slice.ensures.items
     ∙ sum_by-append cents_of s.held.items sums in
-    let t : Settled =
+    let t : Progress =
     record s { rows = c.add_rows.new.rows; held = c.extend_from_slice.new.self } in
     if_ok2 (Holds c.args.self.form (sum_by cents_of c.extend_from_slice.new.self.items))
     (λ (next : Next). (day : ℕ) (holidays : List ℕ) (before after : History)

@@ -10,7 +10,7 @@ use Rattle.ftd_rules.specs.Private.Years.{semiweekly_from}
 use Rattle.ftd_rules.specs.Private.Walk.{due_date, AreOwed, periods, period_first}
 use Rattle.ftd_rules.proofs.Along.{upto, upto_within, cut_here}
 use Rattle.ftd_buckets.specs.declared.Window.{Window}
-use Rattle.ftd_buckets.specs.declared.state.Settled.{Settled}
+use Rattle.ftd_buckets.specs.declared.state.Progress.{Progress}
 use Rattle.ftd_buckets.specs.declared.state.Stage.TheVariants as stage
 use Rattle.ftd_buckets.specs.Histories.{TurnsWithin}
 use Rattle.ftd_buckets.specs.Ready.{Repairing, repairing, IsReady}
@@ -20,10 +20,10 @@ use Rattle.ftd_buckets.proofs.Onward.{same_line}
 use Rattle.ftd_buckets.proofs.Turns.{line_year}
 use Rattle.ftd_buckets.proofs.Split.{Split, split_turn, turning, open_first, whole_before}
 use Rattle.ftd_buckets.proofs.Split.{rest_ready, turned_next}
-use Rattle.ftd_buckets.proofs.state.Settled.feed_turned.Goals as goal
+use Rattle.ftd_buckets.proofs.state.Progress.feed_turned.Goals as goal
 
 -- the first day of the last deposit period, under the turn
-opens_on : (s : Settled) (turn : Option ℕ) → (h : IsReady (repairing s stage.Period))
+opens_on : (s : Progress) (turn : Option ℕ) → (h : IsReady (repairing s stage.Period))
     → (given : YearLine) (first semiweekly : ℕ) → first ≡ period_first s.form semiweekly s.asked.to
     → semiweekly ≡ semiweekly_from (with_turn (slice_index_or s.lines.now 0 given) turn)
     → first ≡ period_first s.form (semiweekly_from (with_turn h.line turn)) s.asked.to
@@ -73,7 +73,7 @@ period_of-requires-clause-late c =
 pub yesterday-before-requires : goal.yesterday-before-requires
 yesterday-before-requires c =
     let h = c.requires.ready in
-    let s : Settled = c.args.self in
+    let s : Progress = c.args.self in
     let t = turning s c.args.turn h c.requires.within in
     let first = opens_on s c.args.turn h c.index-self-0.result _ _ c.period_of.ensures.first
     c.first_semiweekly_day.ensures.day in
@@ -89,7 +89,7 @@ split_at-requires c =
 pub add_rows-requires-clause-turn : goal.add_rows-requires-clause-turn
 add_rows-requires-clause-turn c =
     let h = c.requires.ready in
-    let s : Settled = c.args.self in
+    let s : Progress = c.args.self in
     let t = turning s c.args.turn h c.requires.within in
     subst (λ (z : YearLine). TurnsWithin (with_turn z c.args.turn))
     (sym (line_read h c.index-self-0.result))
@@ -98,7 +98,7 @@ add_rows-requires-clause-turn c =
 pub add_rows-requires-clause-whole : goal.add_rows-requires-clause-whole
 add_rows-requires-clause-whole c =
     let h = c.requires.ready in
-    let s : Settled = c.args.self in
+    let s : Progress = c.args.self in
     let t = turning s c.args.turn h c.requires.within in
     let first = opens_on s c.args.turn h c.index-self-0.result _ _ c.period_of.ensures.first
     c.first_semiweekly_day.ensures.day in
@@ -119,7 +119,7 @@ add_rows-requires-clause-rise c =
 pub need-requires : goal.need-requires
 need-requires c =
     let h = c.requires.ready in
-    let s : Settled = c.args.self in
+    let s : Progress = c.args.self in
     let t = turning s c.args.turn h c.requires.within in
     let first = opens_on s c.args.turn h c.index-self-0.result _ _ c.period_of.ensures.first
     c.first_semiweekly_day.ensures.day in
@@ -139,7 +139,7 @@ need-requires c =
 pub returns-clause-serves : goal.returns-clause-serves
 returns-clause-serves c =
     let h = c.requires.ready in
-    let s : Settled = c.args.self in
+    let s : Progress = c.args.self in
     let t = turning s c.args.turn h c.requires.within in
     let parts = cut_at c.args.sums.now _ _ _ _ _ c.yesterday-before.ensures c.days_within.ensures
     c.split_at.ensures.front c.split_at.ensures.back in

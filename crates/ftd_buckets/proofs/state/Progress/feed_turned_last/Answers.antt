@@ -1,6 +1,6 @@
 use Rattle.std.proofs.Common.{◌≡◌, ◌+◌, ℕ, List, refl, sym, ◌∙◌, ap, subst, slice_index_or}
 use Rattle.ftd_rules.specs.declared.YearLine.{YearLine}
-use Rattle.ftd_buckets.specs.declared.state.Settled.{Settled}
+use Rattle.ftd_buckets.specs.declared.state.Progress.{Progress}
 use Rattle.ftd_buckets.specs.declared.state.Stage.TheVariants as stage
 use Rattle.ftd_buckets.specs.Histories.{History, TurnsWithin}
 use Rattle.ftd_buckets.specs.Ready.{repairing}
@@ -21,7 +21,7 @@ use Rattle.ftd_buckets.specs.Private.Answered.{Serves, IsSettledYear}
 use Rattle.ftd_buckets.proofs.Onward.{same_line}
 use Rattle.ftd_buckets.proofs.Fed.{if_ok2, if_ok_true}
 use Rattle.ftd_buckets.proofs.Split.{split_turn, turning, whole_last, last_settled}
-use Rattle.ftd_buckets.proofs.state.Settled.feed_turned_last.Goals as goal
+use Rattle.ftd_buckets.proofs.state.Progress.feed_turned_last.Goals as goal
 
 pub add_rows-requires-clause-to : goal.add_rows-requires-clause-to
 add_rows-requires-clause-to c = read_to c.requires.ready _
@@ -29,7 +29,7 @@ add_rows-requires-clause-to c = read_to c.requires.ready _
 pub add_rows-requires-clause-turn : goal.add_rows-requires-clause-turn
 add_rows-requires-clause-turn c =
     let h = c.requires.ready in
-    let s : Settled = c.args.self in
+    let s : Progress = c.args.self in
     subst (λ (z : YearLine). TurnsWithin (with_turn z c.args.turn))
     (sym (line_read h c.index-self-0.result))
     (split_turn s.form h.line s.asked.from s.asked.to c.args.turn
@@ -38,7 +38,7 @@ add_rows-requires-clause-turn c =
 pub add_rows-requires-clause-whole : goal.add_rows-requires-clause-whole
 add_rows-requires-clause-whole c =
     let h = c.requires.ready in
-    let s : Settled = c.args.self in
+    let s : Progress = c.args.self in
     subst (λ (z : YearLine). IsWhole s.form (with_turn z c.args.turn) s.asked.from s.asked.to)
     (sym (line_read h c.index-self-0.result))
     (whole_last s.form h.line s.asked.from s.asked.to c.args.turn
@@ -47,14 +47,14 @@ add_rows-requires-clause-whole c =
 pub returns-clause-serves : goal.returns-clause-serves
 returns-clause-serves c =
     let h = c.requires.ready in
-    let s : Settled = c.args.self in
+    let s : Progress = c.args.self in
     let sums = c.args.sums.now in
     let ends = c.requires.last h.line h.later h.lines_are in
     let whole = whole_last s.form h.line s.asked.from s.asked.to c.args.turn
     (turning s c.args.turn h c.requires.within).cut ends in
     let given_line : YearLine = slice_index_or s.lines.now 0 c.index-self-0.result in
     let rows = c.in_ok-add_rows.ensures.rows in
-    let t : Settled = record s { rows = c.add_rows.new.rows } in
+    let t : Progress = record s { rows = c.add_rows.new.rows } in
     if_ok2 (λ (next : Next). ⊤)
     (λ (next : Next). (day : ℕ) (holidays : List ℕ) (before after : History)
     → IsSettledYear c.args.self.form day holidays before after t (with_turn given_line c.args.turn)
