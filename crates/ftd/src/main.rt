@@ -6,9 +6,11 @@ mod beginning;
 mod jobs;
 mod progress;
 mod server;
+mod shell;
 
 use crate::jobs::{local, report_fault};
 use crate::server::serve_file;
+use crate::shell::shell;
 use ftd_cli::{PlainTask, Task, decide};
 use ftd_files::{ProgramFault, standard_input, words};
 use ftd_ports::Port;
@@ -41,6 +43,7 @@ fn done(rt: &HostRuntime, task: Task) -> u8 {
     match task {
         Task::Plain(task) => plain(rt, &task),
         Task::Local(task) => local(rt, task),
+        Task::Shell(task) => shell(rt, &task),
         Task::Serve(task) => match serve_file(rt, &task) {
             Ok(status) => status,
             Err(fault) => report_fault(rt, fault, &task.db, ""),

@@ -1,3 +1,4 @@
 pub mod AppFacts
 pub mod Simple
 pub mod TaskFacts
+pub mod Joined

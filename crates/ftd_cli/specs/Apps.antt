@@ -30,6 +30,7 @@ taking takes.Texts rule = record rule { action = Some Append }
 taking takes.Nothing rule = record rule { action = Some SetTrue }
 taking takes.Form rule = record rule { defaults = codes "941" ∷ [] }
 taking takes.Format rule = record rule { defaults = codes "text" ∷ [] }
+taking takes.Script rule = record rule { defaults = codes "-" ∷ [] }
 taking takes.Wait rule = seconds_or (pos 0) (codes "0") rule
 taking takes.Idle rule = seconds_or (pos 1) (codes "1") rule
 taking takes.Silence rule = seconds_or (pos 1) (codes "10") rule

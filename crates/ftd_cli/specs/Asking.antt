@@ -35,14 +35,15 @@ TellsAs view (Err fault.NoCommand) said = said ≡ Err fault.NoCommand
 abbrev pub Tells : {X : Type 0} → Result X WordFault → Result X WordFault → Type 0
 Tells {X} read said = TellsAs (λ (x : X). x) read said
 
--- what a subcommand asks: the deposits of pay runs from standard input; or a server, an import
--- of a sheet, in earnest or on trial, or a request to the desk in a database, for which so many
--- seconds are waited. A correction with no number is to be asked under the next one: it is asked
--- under the greatest, to which the desk answers how many there are (NumberSkipped), unless it
+-- what a subcommand asks: the deposits of pay runs from standard input; or a server, a shell, an
+-- import of a sheet, in earnest or on trial, or a request to the desk in a database, for which so
+-- many seconds are waited. A correction with no number is to be asked under the next one: it is
+-- asked under the greatest, to which the desk answers how many there are (NumberSkipped), unless it
 -- answers otherwise, and then under one more than these (`with_number` of `ftd_machine`).
 pub data Wanted : Type 0 where
   plain : (account : Text) (year : ℕ) (holidays : List ℕ) → Wanted
   serve : (db : Text) (wait port connections idle silence duration : ℕ) → Wanted
+  shell : (db : Text) (wait : ℕ) (script : Text) (has_echo has_stop : Bool) → Wanted
   import : (db : Text) (wait : ℕ) (sheet : Sheet) (is_trial : Bool) (file : Text) → Wanted
   ask : (db : Text) (wait : ℕ) (format : Format) (request : Request) → Wanted
   ask_next : (db : Text) (wait : ℕ) (request : Request) → Wanted
@@ -79,6 +80,13 @@ serve_of rows =
     then_with (whole_in word.Duration rows) (λ duration.
     Ok (serve db wait port connections idle silence duration))))))))
 
+unfoldable pub shell_of : List Row → Result Wanted WordFault
+shell_of rows =
+    then_with (text_in word.Db rows) (λ db.
+    then_with (whole_in word.Wait rows) (λ wait.
+    then_with (text_in word.Script rows) (λ script.
+    Ok (shell db wait script (is_given word.Echo rows) (is_given word.Stop rows)))))
+
 unfoldable pub import_of : Sheet → List Row → Result Wanted WordFault
 import_of sheet rows =
     then_with (text_in word.Db rows) (λ db.
@@ -112,5 +120,6 @@ asked_by verb rows request =
 unfoldable pub wanted_of : Name → List Row → Result Wanted WordFault
 wanted_of name.Plain rows = plain_of rows
 wanted_of name.Serve rows = serve_of rows
+wanted_of name.Shell rows = shell_of rows
 wanted_of (name.Import sheet) rows = import_of sheet rows
 wanted_of (name.Verb verb) rows = then_with (request_of verb rows) (asked_by verb rows)

@@ -6,4 +6,5 @@ pub mod Words
 pub mod Asking
 pub mod Escapes
 pub mod Tasks
+pub mod Lines
 pub use Rattle.ftd_days.specs.Spelling

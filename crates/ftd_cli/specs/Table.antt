@@ -29,6 +29,7 @@ sheet_text sheet.Payments = codes "import-payments"
 abbrev pub name_text : Name → List ℕ
 name_text name.Plain = codes "plain"
 name_text name.Serve = codes "serve"
+name_text name.Shell = codes "shell"
 name_text (name.Import sheet) = sheet_text sheet
 name_text (name.Verb verb) = (row_of verb).command
 
@@ -45,15 +46,20 @@ words_of name.Plain = word.Field field.Account ∷ word.Field field.Year ∷ wor
 words_of name.Serve =
     word.Db ∷ word.Wait ∷ word.Port ∷ word.Connections ∷ word.Idle ∷ word.Silence ∷ word.Duration
     ∷ []
+words_of name.Shell =
+    word.Db ∷ word.Wait ∷ word.Echo ∷ word.Stop ∷ word.Script ∷ []
 words_of (name.Import sheet) = word.Db ∷ word.Wait ∷ word.Check ∷ word.CsvFile ∷ []
 words_of (name.Verb verb) = words_with (row_of verb).formats
 
+-- every command but one takes the file of a desk
+abbrev pub takes_file : Name → Bool
+takes_file name.Plain = false
+takes_file other = true
+
 -- the fields of its verb, which come behind its words
 abbrev pub fields_in : Name → List Field
-fields_in name.Plain = []
-fields_in name.Serve = []
-fields_in (name.Import sheet) = []
 fields_in (name.Verb verb) = (row_of verb).fields
+fields_in other = []
 
 -- the word that gives a field
 abbrev pub field_text : Field → List ℕ
@@ -93,6 +99,9 @@ word_text word.Silence = codes "silence"
 word_text word.Duration = codes "duration"
 word_text word.CsvFile = codes "CSVFILE"
 word_text word.Check = codes "check"
+word_text word.Script = codes "SCRIPT"
+word_text word.Echo = codes "echo"
+word_text word.Stop = codes "stop"
 word_text word.Holidays = codes "HOLIDAY"
 word_text (word.Format formats) = codes "format"
 word_text (word.Field at) = field_text at
@@ -107,6 +116,7 @@ is_kind_option other = false
 -- a word that stands behind two hyphens
 abbrev pub is_option : Word → Bool
 is_option word.CsvFile = false
+is_option word.Script = false
 is_option word.Holidays = false
 is_option (word.Field at) = is_kind_option (kind_of at)
 is_option other = true
@@ -137,6 +147,9 @@ takes_of word.Silence = takes.Silence
 takes_of word.Duration = takes.Duration
 takes_of word.CsvFile = takes.Text
 takes_of word.Check = takes.Nothing
+takes_of word.Echo = takes.Nothing
+takes_of word.Stop = takes.Nothing
+takes_of word.Script = takes.Script
 takes_of word.Holidays = takes.Texts
 takes_of (word.Format formats) = takes.Format
 takes_of (word.Field at) = kind_takes (kind_of at)
@@ -180,5 +193,6 @@ all_names =
     ∷ name.Verb verb.CorrectReportYear
     ∷ name.Verb verb.CorrectAccount
     ∷ name.Verb verb.ChangeHoliday
+    ∷ name.Shell
     ∷ name.Plain
     ∷ name.Serve ∷ []

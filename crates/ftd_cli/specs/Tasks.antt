@@ -9,7 +9,7 @@ use Rattle.clap.specs.declared.error.ErrorKind.{ErrorKind}
 use Rattle.clap.specs.declared.error.ErrorKind.TheVariants as kind
 use Rattle.ftd_verbs.specs.declared.field.Field.TheVariants as field
 use Rattle.ftd_cli.specs.Apps.{ftd_app}
-use Rattle.ftd_cli.specs.Asking.{Wanted, ask, ask_next, import, plain, serve, then_with}
+use Rattle.ftd_cli.specs.Asking.{Wanted, ask, ask_next, import, plain, serve, shell, then_with}
 use Rattle.ftd_cli.specs.Asking.{wanted_of}
 use Rattle.ftd_cli.specs.Escapes.{escaped, escaped_word}
 use Rattle.ftd_cli.specs.Table.{all_names, name_text}
@@ -76,6 +76,9 @@ task_view (task.Plain asked) = plain asked.account asked.year asked.holidays
 task_view (task.Serve asked) =
     serve (string_bytes asked.db) asked.wait asked.port asked.connections asked.idle asked.silence
     asked.duration
+task_view (task.Shell asked) =
+    shell (string_bytes asked.db) asked.wait (string_bytes asked.script) asked.has_echo
+    asked.has_stop
 task_view (task.Local local) = job_view (string_bytes local.db) local.wait local.job
 
 -- help or the version is asked for

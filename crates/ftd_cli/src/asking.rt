@@ -4,13 +4,13 @@
 ghost use Rattle.std.specs.Prelude.{◌≡◌};
 ghost use Rattle.clap.specs.Words.{found_of, rows_of};
 ghost use Rattle.ftd_cli.specs.Asking.{Tells, TellsAs, account_in, asked_by, import_of, plain_of};
-ghost use Rattle.ftd_cli.specs.Asking.{serve_of, wanted_of, year_in};
+ghost use Rattle.ftd_cli.specs.Asking.{serve_of, shell_of, wanted_of, year_in};
 ghost use Rattle.ftd_cli.specs.Tasks.{task_view, in_database};
 ghost use Rattle.ftd_cli.specs.Words.{request_of};
 
 use crate::fault::WordFault;
 use crate::reading::{days_at, format_at, is_given, owned_text, port_at, text_at, whole_at};
-use crate::tasks::{Job, LocalTask, PlainTask, ServeTask, Task};
+use crate::tasks::{Job, LocalTask, PlainTask, ServeTask, ShellTask, Task};
 use crate::words::Words;
 use crate::{Name, Word};
 use clap::ArgMatches;
@@ -85,6 +85,23 @@ fn serve(alloc: Global, inner: &ArgMatches<'_>) -> Result<Task, WordFault>
     }))
 }
 
+/// What `shell` asks.
+#[tactic(auto, unfolding(crate::specs::Asking::shell_of))]
+fn shell(alloc: Global, inner: &ArgMatches<'_>) -> Result<Task, WordFault>
+    ensures { TellsAs task_view result (shell_of (rows_of (found_of inner.now))) }
+{
+    let db = owned_text(alloc, inner, Word::Db)?;
+    let wait = whole_at(inner, Word::Wait)?;
+    let script = owned_text(alloc, inner, Word::Script)?;
+    Ok(Task::Shell(ShellTask {
+        db,
+        wait,
+        script,
+        has_echo: is_given(inner, Word::Echo),
+        has_stop: is_given(inner, Word::Stop),
+    }))
+}
+
 /// What an import of this sheet asks.
 #[tactic(auto, unfolding(crate::specs::Asking::import_of))]
 fn import(alloc: Global, sheet: Sheet, inner: &ArgMatches<'_>) -> Result<Task, WordFault>
@@ -146,6 +163,7 @@ pub fn task_for(alloc: Global, name: Name, inner: &ArgMatches<'_>) -> Result<Tas
     match name {
         Name::Plain => plain(alloc, inner),
         Name::Serve => serve(alloc, inner),
+        Name::Shell => shell(alloc, inner),
         Name::Import(sheet) => import(alloc, sheet, inner),
         Name::Verb(verb) => asked(alloc, verb, inner, request(alloc, verb, inner)?),
     }

@@ -13,9 +13,8 @@ use ftd_verbs::Field;
 use std::alloc::{AllocError, Global};
 
 /// What the desk is for, and how its commands are told. The whole help has 44 lines.
-const ABOUT: &str = "\
-What withheld federal tax must be deposited, for which period and by which day
-(IRS Publication 15, section 11). ftd COMMAND --help has an example.";
+const ABOUT: &str =
+    "Federal tax deposits by Pub. 15, section 11. ftd COMMAND --help has an example.";
 
 /// An argument that takes a whole number of seconds, at least so many and at most 3,600; so many if
 /// it is not there.
@@ -51,6 +50,7 @@ fn arg_of<'a>(alloc: Global, word: Word) -> Arg<'a>
         Takes::Nothing => arg.action(ArgAction::SetTrue),
         Takes::Form => arg.default_value("941"),
         Takes::Format => arg.default_value("text"),
+        Takes::Script => arg.default_value("-"),
         Takes::Wait => seconds_or(arg, 0, "0"),
         Takes::Idle => seconds_or(arg, 1, "1"),
         Takes::Silence => seconds_or(arg, 1, "10"),

@@ -42,7 +42,7 @@ For more information, try '--help'.
 
 /// The subcommand that is written so.
 #[tactic(auto, unfolding(crate::specs::Tasks::command_named))]
-fn command_named(text: &str) -> Option<Name>
+pub(crate) fn command_named(text: &str) -> Option<Name>
     ensures { result ≡ command_named text.now }
 {
     NAMES.iter().copied().find(|name| name.text() == text)

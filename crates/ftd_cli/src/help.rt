@@ -31,12 +31,16 @@ const CHANGE_HOLIDAY: &str = "Example: ftd change-holiday --db office.db 2024-06
 const CORRECT_ACCOUNT: &str = "Example: ftd correct-account --db office.db elm 2024-05-01\n\
     Without --carried the account is not carried. What was first enrolled stays.";
 
+const SHELL: &str = "Example: ftd shell --db office.db commands.txt\n\
+    A line is a command without ftd and --db: post elm 1 2024-05-08 20000.00 16000.00 4000.00";
+
 impl Name {
     /// What help says of it, in a line.
     pub fn about<'a>(self) -> &'a str {
         match self {
             Name::Plain => "Print the deposits of pay runs from CSV; keeps nothing",
             Name::Serve => "Answer HTTP requests on 127.0.0.1",
+            Name::Shell => "Answer commands, a line each; the file is opened once",
             Name::Import(sheet) => sheet_about(sheet),
             Name::Verb(verb) => verb_about(verb),
         }
@@ -47,6 +51,7 @@ impl Name {
         match self {
             Name::Plain => "Example: ftd plain elm 2024 2024-05-27 2024-07-04 < runs.csv",
             Name::Serve => "Example: ftd serve --db office.db --port 8080 --connections 1000",
+            Name::Shell => SHELL,
             Name::Import(sheet) => sheet_example(sheet),
             Name::Verb(verb) => verb_example(verb),
         }
@@ -166,6 +171,9 @@ impl Word {
             Word::Duration => "How long one connection is served in all, 1 to 3600",
             Word::CsvFile => "The CSV file, under the header below; - is standard input",
             Word::Check => "Print what the import would print, and change nothing",
+            Word::Script => "The file of the commands; - is standard input",
+            Word::Echo => "Print each command before its answer",
+            Word::Stop => "Stop at the first command that is not answered",
             Word::Holidays => "Legal holidays of the year and the next, YYYY-MM-DD, ascending",
             Word::Format(formats) => formats_help(formats),
             Word::Field(field) => field_help(field),

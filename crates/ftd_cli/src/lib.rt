@@ -8,6 +8,7 @@ mod deciding;
 mod escape;
 mod fault;
 mod help;
+mod lines;
 mod parse;
 mod reading;
 mod table;
@@ -16,5 +17,6 @@ mod words;
 
 pub use crate::deciding::decide;
 pub use crate::escape::{escape_text, escape_word};
+pub use crate::lines::{Line, MOST_LINE, Piece, command_words, next_piece, read_line, shown_words};
 pub use crate::table::{NAMES, Name, Takes, Word};
-pub use crate::tasks::{CliFault, Job, LocalTask, PlainTask, ServeTask, Task};
+pub use crate::tasks::{CliFault, Job, LocalTask, PlainTask, ServeTask, ShellTask, Task};

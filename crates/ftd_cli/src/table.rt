@@ -3,10 +3,13 @@
 ghost use Rattle.std.specs.Prelude.{◌≡◌};
 ghost use Rattle.ftd_verbs.specs.Rows.{row_of};
 ghost use Rattle.ftd_cli.specs.Table.{field_text, fields_in, is_kind_option, is_option, kind_takes};
-ghost use Rattle.ftd_cli.specs.Table.{name_text, sheet_text, takes_many, takes_of, word_text};
-ghost use Rattle.ftd_cli.specs.Table.{words_of, words_with};
+ghost use Rattle.ftd_cli.specs.Table.{name_text, sheet_text, takes_file, takes_many, takes_of};
+ghost use Rattle.ftd_cli.specs.Table.{word_text, words_of, words_with};
 
-use Word::{Check, Connections, CsvFile, Db, Duration, Holidays, Idle, Port, Silence, Wait};
+use Word::{
+    Check, Connections, CsvFile, Db, Duration, Echo, Holidays, Idle, Port, Script, Silence, Stop,
+    Wait,
+};
 use ftd_csv::Sheet;
 use ftd_verbs::{Field, Formats, Kind, Verb};
 
@@ -29,6 +32,8 @@ pub enum Takes {
     Form,
     /// A text, `text` if it is not there.
     Format,
+    /// A text, `-` if it is not there.
+    Script,
     /// A whole number of seconds from 1 to 3,600, 1 if it is not there.
     Idle,
     /// A whole number of seconds from 1 to 3,600, 10 if it is not there.
@@ -46,6 +51,8 @@ pub enum Name {
     Plain,
     /// HTTP requests are answered.
     Serve,
+    /// The commands of a script are answered.
+    Shell,
     /// A sheet of CSV is imported.
     Import(Sheet),
     /// A request to the desk.
@@ -73,6 +80,12 @@ pub enum Word {
     CsvFile,
     /// The import is a trial.
     Check,
+    /// The lines of a script, each a command.
+    Script,
+    /// Each line is printed before its answer.
+    Echo,
+    /// The first line that is not answered is the last.
+    Stop,
     /// The holidays for `plain`.
     Holidays,
     /// The format of the answer, one of these.
@@ -121,9 +134,17 @@ impl Name {
         match self {
             Name::Plain => "plain",
             Name::Serve => "serve",
+            Name::Shell => "shell",
             Name::Import(sheet) => sheet_text(sheet),
             Name::Verb(verb) => verb_text(verb),
         }
+    }
+
+    /// Whether it takes the file of a desk: all but `plain` do.
+    pub fn takes_file(self) -> bool
+        ensures { result ≡ takes_file self }
+    {
+        !matches!(self, Name::Plain)
     }
 
     /// Its words, in their order, but for the fields of its verb.
@@ -137,6 +158,7 @@ impl Name {
                 Holidays,
             ],
             Name::Serve => &[Db, Wait, Port, Connections, Idle, Silence, Duration],
+            Name::Shell => &[Db, Wait, Echo, Stop, Script],
             Name::Import(_) => &[Db, Wait, Check, CsvFile],
             Name::Verb(verb) => words_with(verb.row().formats),
         }
@@ -147,8 +169,8 @@ impl Name {
         ensures { result.now ≡ fields_in self }
     {
         match self {
-            Name::Plain | Name::Serve | Name::Import(_) => &[],
             Name::Verb(verb) => verb.row().fields,
+            _ => &[],
         }
     }
 }
@@ -220,6 +242,9 @@ impl Word {
             Word::Duration => "duration",
             Word::CsvFile => "CSVFILE",
             Word::Check => "check",
+            Word::Script => "SCRIPT",
+            Word::Echo => "echo",
+            Word::Stop => "stop",
             Word::Holidays => "HOLIDAY",
             Word::Format(_) => "format",
             Word::Field(field) => field_text(field),
@@ -231,7 +256,7 @@ impl Word {
         ensures { result ≡ is_option self }
     {
         match self {
-            Word::CsvFile | Word::Holidays => false,
+            Word::CsvFile | Word::Script | Word::Holidays => false,
             Word::Field(field) => is_kind_option(field.kind()),
             _ => true,
         }
@@ -249,7 +274,8 @@ impl Word {
             Word::Idle => Takes::Idle,
             Word::Silence => Takes::Silence,
             Word::Duration => Takes::Duration,
-            Word::Check => Takes::Nothing,
+            Word::Check | Word::Echo | Word::Stop => Takes::Nothing,
+            Word::Script => Takes::Script,
             Word::Holidays => Takes::Texts,
             Word::Format(_) => Takes::Format,
             Word::Field(field) => kind_takes(field.kind()),
@@ -265,7 +291,7 @@ impl Word {
 }
 
 /// The subcommands, as help lists them: in the order in which an employer needs them.
-pub const NAMES: [Name; 33] = [
+pub const NAMES: [Name; 34] = [
     Name::Verb(Verb::Calendar),
     Name::Verb(Verb::Enrol),
     Name::Verb(Verb::Report),
@@ -297,6 +323,7 @@ pub const NAMES: [Name; 33] = [
     Name::Verb(Verb::CorrectReportYear),
     Name::Verb(Verb::CorrectAccount),
     Name::Verb(Verb::ChangeHoliday),
+    Name::Shell,
     Name::Plain,
     Name::Serve,
 ];

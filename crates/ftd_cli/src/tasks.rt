@@ -73,11 +73,27 @@ pub struct ServeTask {
     pub duration: u32,
 }
 
+/// The lines of a script are to be answered by the desk in a database, each as a command.
+#[derive(Drop)]
+pub struct ShellTask {
+    /// The database file.
+    pub db: String,
+    /// How many seconds it waits while another program has the file open.
+    pub wait: u32,
+    /// The file of the script; `-` is standard input.
+    pub script: String,
+    /// Whether each line is printed before its answer.
+    pub has_echo: bool,
+    /// Whether the first line whose status is not 0 is the last.
+    pub has_stop: bool,
+}
+
 /// What words ask.
 #[derive(Drop)]
 pub enum Task {
     Plain(PlainTask),
     Serve(ServeTask),
+    Shell(ShellTask),
     Local(LocalTask),
 }
 

@@ -3,6 +3,7 @@
 use crate::faults::ProgramFault;
 use crate::folder::{has_folder, meant};
 use ftd_cli::escape_word;
+use std::alloc::{AllocError, Global};
 use std::fs::{self, File};
 use std::io::ErrorKind;
 
@@ -69,14 +70,29 @@ fn tell_log(rt: &HostRuntime, db: &str) {
     }
 }
 
+/// The hint that says of a file why it can't be used. Empty where it has no name.
+fn file_hint(alloc: Global, name: &str, why: &str) -> Result<String, AllocError> {
+    if name.is_empty() {
+        return Ok(String::new(alloc));
+    }
+    let name = escape_word(alloc, name)?;
+    format!(in alloc; "hint: {name}: {why}\n")
+}
+
 /// Tells of a file why it can't be used. Nothing where it has no name.
 fn tell_file(rt: &HostRuntime, name: &str, why: &str) {
-    if name.is_empty() {
-        return;
+    if let Ok(hint) = file_hint(rt.alloc(), name, why) {
+        let _ = eprint!(rt; "{hint}");
     }
-    if let Ok(name) = escape_word(rt.alloc(), name) {
-        let _ = eprint!(rt; "hint: {name}: {why}\n");
-    }
+}
+
+/// What is told of a fault of what is read, with its hint.
+pub fn unread_text(alloc: Global, fault: ProgramFault, input: &str) -> Result<Vec<u8>, AllocError> {
+    let hint = match fault {
+        ProgramFault::Input(kind) => file_hint(alloc, input, reason(kind))?,
+        _ => String::new(alloc),
+    };
+    Ok(format!(in alloc; "{fault}\n{hint}")?.into_bytes())
 }
 
 /// Why a file that was to be read can't be.

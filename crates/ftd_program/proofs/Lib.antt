@@ -23,3 +23,4 @@ mod PrintedDays
 mod ReadBack
 mod Reread
 mod Imported
+mod Scripted

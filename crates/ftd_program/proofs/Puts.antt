@@ -1,5 +1,5 @@
 -- What is put on standard error.
-use Rattle.std.proofs.Common.{◌≡◌, ℕ, Bool, List, [], Option, Result, Ok, Err, refl, sym}
+use Rattle.std.proofs.Common.{ℕ, Bool, List, [], Option, Result, Ok, Err, refl, sym}
 use Rattle.std.proofs.KnownBytes.{Appends-nil}
 use Rattle.std.proofs.lemmas.List.{append-nil}
 use Rattle.ftd_ports.specs.Writing.{Writes, WritesPrefix}

@@ -2,7 +2,7 @@
 use Rattle.std.proofs.Common.{◌≡◌, ◌⊎◌, inl, inr, ℕ, ◌+◌, ◌-◌, ◌*◌, ◌<◌, ◌≤◌, List, [], ◌∷◌, length}
 use Rattle.std.proofs.Common.{map, Option, Some, None, Ok, Bool, true, false, cond, refl, sym}
 use Rattle.std.proofs.Common.{ap, ◌∙◌, arith}
-use Rattle.std.specs.Prelude.{All, ◌&&◌, ◌==◌, if◌then◌else◌, option_and_then, option_map, IfSome}
+use Rattle.std.specs.Prelude.{All, ◌==◌, if◌then◌else◌, option_and_then, option_map, IfSome}
 use Rattle.std.specs.List.{cons_option, sum_by}
 use Rattle.std.specs.Map.{values_of}
 use Rattle.std.specs.Str.{bytes_eq}

@@ -1,5 +1,5 @@
 -- How the records of an import change the obligations of accounts.
-use Rattle.std.specs.Prelude.{ℕ, List, Option, None, Some, Ok, Err}
+use Rattle.std.specs.Prelude.{ℕ, List, Option, None, Some, Ok}
 use Rattle.ftd_machine.specs.Checks.{Answer}
 use Rattle.ftd_machine.specs.declared.replies.Difference.{Difference}
 use Rattle.ftd_machine.specs.declared.replies.Reply.TheVariants as reply

@@ -17,6 +17,7 @@ pub mod Numbering
 pub mod Performing
 pub mod PlainLines
 pub mod RecordNotes
+pub mod Shells
 pub mod Summaries
 pub use Rattle.ftd_cli.specs.Table
 pub use Rattle.ftd_csv.specs.Answers

@@ -373,7 +373,7 @@ fn print_cause<O, E: Target>(
 }
 
 /// Prints a line on standard error, and answers the status.
-fn print_line<O, E: Target>(status: u8, line: &[u8], out: O, err: E) -> JobEnd<O, E>
+pub(crate) fn print_line<O, E: Target>(status: u8, line: &[u8], out: O, err: E) -> JobEnd<O, E>
     ensures status { result.status ≡ status }
     ensures out { result.out ≡ out }
     ensures line { IsPut (E.taken err) (E.taken result.err) (E.failed result.err) line.now }

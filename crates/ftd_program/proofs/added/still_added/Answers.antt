@@ -1,8 +1,8 @@
 use Rattle.std.proofs.Common.{◌≡◌, ◌<◌, ◌+◌, ◌∙◌, ◌++◌, ◌∷◌, [], ℕ, List, length, take, sym, ap}
 use Rattle.std.proofs.lemmas.List.{map-append, take_more}
-use Rattle.std.proofs.Common.{Bor, map}
+use Rattle.std.proofs.Common.{Bor}
 use Rattle.ftd_rules.specs.declared.Obligation.{Obligation}
-use Rattle.ftd_program.specs.Added.{added_then, changes_in, still_added}
+use Rattle.ftd_program.specs.Added.{added_then, changes_in}
 use Rattle.ftd_program.specs.declared.changes.AccountChange.{AccountChange}
 use Rattle.ftd_program.proofs.StillAdded.{still_more}
 use Rattle.ftd_program.proofs.added.still_added.Goals as goal

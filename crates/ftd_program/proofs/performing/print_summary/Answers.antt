@@ -1,4 +1,4 @@
-use Rattle.std.proofs.Common.{◌≡◌, arith, inl, inr, rules}
+use Rattle.std.proofs.Common.{arith, inl, inr, rules}
 use Rattle.ftd_desk.proofs.Tried.{as_it_was}
 use Rattle.ftd_desk.specs.Desks.{held}
 use Rattle.ftd_program.proofs.Puts.{nothing_put}

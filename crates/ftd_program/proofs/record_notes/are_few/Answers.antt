@@ -1,4 +1,4 @@
-use Rattle.std.proofs.Common.{◌≡◌, ◌∙◌, ◌+◌, ◌-◌, ap, arith, sym}
+use Rattle.std.proofs.Common.{◌∙◌, ◌+◌, ◌-◌, ap, arith, sym}
 use Rattle.ftd_program.specs.declared.refusals.RefusedRecord.{RefusedRecord}
 use Rattle.ftd_machine.specs.Refusals.{number_of}
 use Rattle.ftd_program.proofs.RecordFacts.{not_few}

@@ -1,4 +1,3 @@
-use Rattle.std.proofs.Common.{◌≡◌, ◌++◌, ap, map, take}
 use Rattle.std.proofs.lemmas.List.{take_all}
 use Rattle.ftd_desk.specs.Desks.{held}
 use Rattle.ftd_program.proofs.Mended.{keeps_on, stands_on}

@@ -1,9 +1,7 @@
-use Rattle.std.proofs.Common.{◌≡◌, Ok, Err, inl, refl, rules}
+use Rattle.std.proofs.Common.{Ok, Err, inl, refl, rules}
 use Rattle.ftd_machine.specs.declared.replies.Refusal.TheVariants.{Memory}
 use Rattle.ftd_desk.proofs.Tried.{as_it_was}
 use Rattle.ftd_desk.specs.Desks.{held}
-use Rattle.ftd_program.specs.RecordNotes.{line_text}
-use Rattle.std.specs.List.{flat_map}
 use Rattle.ftd_program.proofs.Puts.{nothing_put, prefix_put}
 use Rattle.ftd_program.proofs.record_notes.put_refusals.Goals as goal
 

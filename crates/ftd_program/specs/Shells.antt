@@ -1,0 +1,246 @@
+-- What a shell answers: the lines of a script, each as its command.
+use Rattle.std.specs.Prelude.{◌≡◌, ◌==◌, ◌&&◌, ◌||◌, ◌+◌, ◌≤◌, ℕ, Bool, false, true, nat_lt}
+use Rattle.std.specs.Prelude.{List, [], ◌∷◌, ◌++◌, length, MatchResult, Option, None, Some, IfSome}
+use Rattle.std.specs.Prelude.{Result, codes, if◌then◌else◌, not}
+use Rattle.std.specs.Fmt.{decimal}
+use Rattle.std.specs.Global.{Vec}
+use Rattle.std.specs.Io.KnownBytes.{Appends}
+use Rattle.std.specs.String.{string_bytes}
+use Rattle.sqlite.specs.Store as store
+use Rattle.ftd_ports.specs.Ports.{has_failed, inner_of}
+use Rattle.ftd_ports.specs.declared.port.Port.{Port}
+use Rattle.ftd_desk.specs.declared.desk.Desk.{Desk}
+use Rattle.ftd_cli.specs.Lines.{IsNext, are_texts, asks_nothing, command_words, line_of}
+use Rattle.ftd_cli.specs.Lines.{shown_words}
+use Rattle.ftd_cli.specs.Tasks.{Gives, task_of}
+use Rattle.ftd_cli.specs.declared.lines.Piece.{Piece}
+use Rattle.ftd_cli.specs.declared.lines.Piece.TheVariants as piece
+use Rattle.ftd_cli.specs.declared.tasks.CliFault.{CliFault}
+use Rattle.ftd_cli.specs.declared.tasks.Job.{Job}
+use Rattle.ftd_cli.specs.declared.tasks.Job.TheVariants as job
+use Rattle.ftd_cli.specs.declared.tasks.Task.{Task}
+use Rattle.ftd_cli.specs.declared.tasks.Task.TheVariants as task
+use Rattle.ftd_replies.specs.Putting.{IsPut}
+use Rattle.ftd_replies.specs.Telling.{Tells}
+use Rattle.ftd_program.specs.Performing.{Does, FailsOutput}
+use Rattle.ftd_program.specs.declared.performing.JobEnd.{JobEnd}
+use Rattle.ftd_program.specs.declared.shell.Shell.{Shell}
+use Rattle.ftd_program.specs.declared.shell.Shows.{Shows}
+
+-- an import reads a file, and no other job does
+abbrev pub reads_file : Job → Bool
+reads_file (job.Import sheet file is_trial) = true
+reads_file other = false
+
+-- the job that a task does with a desk, if it is one that a shell does
+abbrev pub job_of : Task → Option Job
+job_of (task.Local local) = Some local.job
+job_of other = None
+
+-- what stays the same in a shell: the file of its desk, as hints name it, and what it shows
+pub record Ways : Type 0 where
+  pub db : List ℕ
+  pub shows : Shows
+
+abbrev pub ways_of : {S F : Type 0} → Shell S F → Ways
+ways_of shell = record { db = string_bytes shell.db; shows = shell.shows }
+
+-- ---- texts
+
+-- what is told of a command that is none of a shell
+abbrev pub not_here : List ℕ
+not_here = codes "error: this is no command of the shell\n"
+
+-- what is told of a line with a word that is no text, and of one that is too long
+abbrev pub no_text : List ℕ
+no_text = codes "error: a word is no text\n"
+
+abbrev pub too_long : List ℕ
+too_long = codes "error: the line has more than 65536 bytes\n"
+
+-- a command, as it is shown
+abbrev pub command_text : List ℕ → List ℕ
+command_text shown = codes "$ ftd " ++ (shown ++ codes "\n")
+
+-- the same before its answer, where commands are shown
+abbrev pub echo_text : Shows → List ℕ → List ℕ
+echo_text shows shown = if shows.commands then command_text shown else []
+
+-- the line, and below it what was said of it on standard error; nothing where nothing was said
+abbrev pub named_text : ℕ → List ℕ → List ℕ → List ℕ
+named_text number shown [] = []
+named_text number shown (byte ∷ said) =
+    codes "line " ++ (decimal number ++ (codes ": " ++ (shown ++ (codes "\n" ++ (byte ∷ said)))))
+
+abbrev pub said_text : Shows → ℕ → List ℕ → List ℕ → List ℕ
+said_text shows number shown said =
+    if shows.lines then named_text number shown said else said
+
+-- ---- the status
+
+abbrev pub greater : ℕ → ℕ → ℕ
+greater status other = if nat_lt status other then other else status
+
+-- a script ends where a line failed, and with --stop where one was not answered
+abbrev pub is_last : Bool → ℕ → Bool
+is_last has_stop status = (status == 3) || (has_stop && not (status == 0))
+
+-- ---- a port over bytes in memory, which keeps what is said of a line
+
+abbrev pub said_in : Port (Vec ℕ) → List ℕ
+said_in port = (inner_of port).items
+
+abbrev pub said_by : Port (Vec ℕ) → Option (List ℕ)
+said_by port = Some (said_in port)
+
+module _ {O E : Type 0} (e_taken : E → Option (List ℕ)) (e_failed : E → Bool)
+    (out : O) (err : E) (p : JobEnd O E) where
+  -- one line on standard error
+  pub record TellsLine (status : ℕ) (text : List ℕ) : Type 0 where
+    pub status_is : p.status ≡ status
+    pub out_is : p.out ≡ out
+    pub line : IsPut (e_taken err) (e_taken p.err) (e_failed p.err) text
+
+  abbrev pub HasNoMemory : Type 0
+  HasNoMemory = TellsLine 3 (codes "failed 21 Memory\n")
+
+  -- what is wrong with a line that is not shown
+  abbrev pub TellsBad : Shows → ℕ → List ℕ → Type 0
+  TellsBad shows number said = TellsLine 2 (said_text shows number (codes "..") said)
+
+module _ {S O E : Type 0} (g : store.Ghosts S) (o_taken : O → Option (List ℕ)) (o_failed : O → Bool)
+    (e_taken : E → Option (List ℕ)) (e_failed : E → Bool)
+    (out : O) (err : E) (p : JobEnd O E) where
+  -- the job was done, with what its file has; or the file could not be read
+  pub data DoesJob (old new : Desk S) (db : List ℕ) (asked : Job) : Type 0 where
+    did : (input : List ℕ)
+        → Does g o_taken o_failed e_taken e_failed out err p old new input db asked
+        → DoesJob old new db asked
+    unread : (status : ℕ) (said : List ℕ) → reads_file asked ≡ true → new ≡ old
+        → TellsLine e_taken e_failed out err p status said → DoesJob old new db asked
+
+  -- what a shell does not do is told to be none of its commands
+  abbrev pub DoesIfAny : Desk S → Desk S → List ℕ → Option Job → Type 0
+  DoesIfAny old new db (Some asked) = DoesJob old new db asked
+  DoesIfAny old new db None = (new ≡ old) × TellsLine e_taken e_failed out err p 2 not_here
+
+  -- what the words of a command ask was done and told, as by the command itself
+  pub record AnswersCommand (old new : Desk S) (db : List ℕ) (words : List (List ℕ)) : Type 0
+    where
+      pub decided : Result Task CliFault
+      pub gives : Gives decided (task_of words)
+      pub does : MatchResult decided (λ given. DoesIfAny old new db (job_of given))
+          (λ f. (new ≡ old)
+          × Tells o_taken o_failed e_taken e_failed out p.out err p.err f p.status)
+
+module _ {S O E : Type 0} (g : store.Ghosts S) (o_taken : O → Option (List ℕ)) (o_failed : O → Bool)
+    (e_taken : E → Option (List ℕ)) (e_failed : E → Bool) where
+  module _ (out : O) (err : E) (p : JobEnd O E) where
+    -- the words of a line were shown, where commands are, and answered as the command for which
+    -- they stand, with the desk in its file; what was said of them on standard error was put there,
+    -- below the line where lines are shown
+    pub record IsAnswered (old new : Desk S) (ways : Ways) (number : ℕ) (words : List (List ℕ))
+        : Type 0 where
+      pub shown : O
+      pub shows : Appends (o_taken out) (o_taken shown) (echo_text ways.shows (shown_words words))
+      pub unsaid : Port (Vec ℕ)
+      pub is_unsaid : said_in unsaid ≡ []
+      pub end : JobEnd O (Port (Vec ℕ))
+      pub answers : AnswersCommand g o_taken o_failed said_by has_failed shown unsaid end old new
+          ways.db (command_words ways.db words)
+      pub status_is : p.status ≡ end.status
+      pub out_is : p.out ≡ end.out
+      pub puts : IsPut (e_taken err) (e_taken p.err) (e_failed p.err)
+          (said_text ways.shows number (shown_words words) (said_in end.err))
+
+    -- the words of a line were answered; or they could not be shown; or there was no memory
+    pub data AnswersWords (old new : Desk S) (ways : Ways) (number : ℕ) (words : List (List ℕ))
+        : Type 0 where
+      answered : IsAnswered old new ways number words → AnswersWords old new ways number words
+      unshown : new ≡ old
+          → FailsOutput o_taken o_failed e_taken e_failed out err p
+          (echo_text ways.shows (shown_words words)) → AnswersWords old new ways number words
+      no_memory : new ≡ old → HasNoMemory e_taken e_failed out err p
+          → AnswersWords old new ways number words
+
+    -- a line: it asks nothing; or its words are texts, and were answered; or one is none; or there
+    -- was no memory
+    pub data AnswersLine (old new : Desk S) (ways : Ways) (number : ℕ) (line : List ℕ)
+        : Type 0 where
+      nothing : asks_nothing (line_of line) ≡ true → new ≡ old
+          → p ≡ record { status = 0; out = out; err = err }
+          → AnswersLine old new ways number line
+      words : asks_nothing (line_of line) ≡ false → AnswersWords old new ways number (line_of line)
+          → AnswersLine old new ways number line
+      bad : are_texts (line_of line) ≡ false → new ≡ old
+          → TellsBad e_taken e_failed out err p ways.shows number no_text
+          → AnswersLine old new ways number line
+      no_memory : new ≡ old → HasNoMemory e_taken e_failed out err p
+          → AnswersLine old new ways number line
+
+    -- what came next in a script: its end, a line, or a line that was skipped
+    abbrev pub AnswersPiece : Desk S → Desk S → Ways → ℕ → Piece → Type 0
+    AnswersPiece old new ways number piece.End =
+        (new ≡ old) × (p ≡ record { status = 0; out = out; err = err })
+    AnswersPiece old new ways number (piece.Line line) = AnswersLine old new ways number line.items
+    AnswersPiece old new ways number piece.TooLong =
+        (new ≡ old) × TellsBad e_taken e_failed out err p ways.shows number too_long
+
+  -- after these answers, with the greatest status of all
+  abbrev pub AnswersNext : JobEnd O E → JobEnd O E → Desk S → Desk S → Ways → ℕ → Piece → Type 0
+  AnswersNext before p old new ways number piece =
+      (end : JobEnd O E) × AnswersPiece before.out before.err end old new ways number piece
+      × (p ≡ record end { status = greater before.status end.status })
+
+  -- what was read of a script, the last first, was answered line by line, and nothing after the
+  -- line that is the last
+  abbrev pub AnswersLines
+      : Bool → JobEnd O E → JobEnd O E → Desk S → Desk S → Ways → List Piece → Type 0
+  AnswersLines has_stop start p old new ways [] = (new ≡ old) × (p ≡ start)
+  AnswersLines has_stop start p old new ways (piece ∷ earlier) =
+      (between : Desk S) × (before : JobEnd O E)
+      × AnswersLines has_stop start before old between ways earlier
+      × (is_last has_stop before.status ≡ false)
+      × AnswersNext before p between new ways (length earlier + 1) piece
+
+-- the bytes begin with what was read, the last first, and these are left of them
+abbrev pub BeginsWith : List ℕ → List Piece → List ℕ → Type 0
+BeginsWith bytes [] left = left ≡ bytes
+BeginsWith bytes (piece ∷ earlier) left =
+    (before : List ℕ) × BeginsWith bytes earlier before × IsNext before (Some left) piece
+
+-- a script could not be read further, after these answers: why is told
+abbrev pub EndsUnread : {O E : Type 0} → (E → Option (List ℕ)) → (E → Bool) → (end p : JobEnd O E)
+    → ℕ → List ℕ → Type 0
+EndsUnread e_taken e_failed end p status said =
+    TellsLine e_taken e_failed end.out end.err p (greater end.status status) said
+
+-- the most lines that a script is read for
+abbrev pub most_lines : ℕ
+most_lines = 18_446_744_073_709_551_614
+
+module _ {O E : Type 0} (e_taken : E → Option (List ℕ)) (e_failed : E → Bool) where
+  -- why no more lines were answered after these: the script has no more; or the last of them was to
+  -- be the last; or the script could not be read further; or so many were answered
+  pub data HasEnded (bytes : Option (List ℕ)) (has_stop : Bool) (lines : List Piece)
+      (end p : JobEnd O E) : Type 0 where
+    whole : p ≡ end → IfSome bytes (λ all. BeginsWith all lines [])
+        → HasEnded bytes has_stop lines end p
+    last : p ≡ end → is_last has_stop end.status ≡ true → HasEnded bytes has_stop lines end p
+    broken : (status : ℕ) (said : List ℕ) → EndsUnread e_taken e_failed end p status said
+        → HasEnded bytes has_stop lines end p
+    full : p ≡ end → most_lines ≤ length lines → HasEnded bytes has_stop lines end p
+
+module _ {S O E : Type 0} (g : store.Ghosts S) (o_taken : O → Option (List ℕ)) (o_failed : O → Bool)
+    (e_taken : E → Option (List ℕ)) (e_failed : E → Bool)
+    (out : O) (err : E) (p : JobEnd O E) where
+  -- lines of a script were answered one after the other, as many as the script has, or up to the
+  -- last; where its bytes are known, they are those with which it begins
+  pub record AnswersScript (old new : Desk S) (ways : Ways) (bytes : Option (List ℕ))
+      (has_stop : Bool) : Type 0 where
+    pub lines : List Piece
+    pub end : JobEnd O E
+    pub answers : AnswersLines g o_taken o_failed e_taken e_failed has_stop
+        (record { status = 0; out = out; err = err }) end old new ways lines
+    pub begins : IfSome bytes (λ all. (left : List ℕ) × BeginsWith all lines left)
+    pub ends : HasEnded e_taken e_failed bytes has_stop lines end p
