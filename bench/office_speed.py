@@ -183,4 +183,5 @@ def main():
         list_accounts(program, folder)
 
 
-main()
+if __name__ == "__main__":
+    main()

@@ -13,7 +13,8 @@ begins an example, in a new folder that has a copy of `examples/holidays`, a lin
 With no TEXT it looks too whether README.md quotes the source of `ftd_example`: all of its `main.rt` but what stands at its head.
 
 An example that keeps its file by more than one command runs a second time: each command in a folder of its own, with copies of the
-files that the ones before left, and no log beside them.
+files that the ones before left, and no log beside them. If all its commands are lines of `ftd shell`, it runs a third time, as one script
+of that: each line is answered as the command is, but that the file was made is said at the end.
 
 The last line is `N passed, M failed`, of examples. A wrong answer is told with the name of the text and the line; so are a command
 with no answer, one that is not run, and a text with no command.
@@ -47,6 +48,16 @@ class Step:
         """The first word of the command."""
         return self.command.split()[0]
 
+    def file_name(self):
+        """The name of the file that stands below the command, if it is one that shows a file."""
+        name = re.fullmatch(r"cat ([\w.-]+)", self.command)
+        return name and name[1]
+
+    def shell_line(self):
+        """The command as a line of `ftd shell` over office.db, if it can be one."""
+        is_plain = re.fullmatch(r"ftd ([a-z-]+) --db office\.db(( [\w.,-]+)*)", self.command)
+        return is_plain and is_plain[1] not in ("serve", "shell") and f"{is_plain[1]}{is_plain[2]}"
+
 
 class Example:
     """The commands below a title."""
@@ -57,6 +68,11 @@ class Example:
     def keeps_a_file(self):
         """Whether more than one command works on a desk's file, none of them over a socket."""
         return sum("--db " in it.command for it in self.steps) > 1 and not self.requests()
+
+    def is_script(self):
+        """Whether its commands can be lines of one shell."""
+        commands = [it for it in self.steps if not it.file_name() and it.command != "echo $?"]
+        return len(commands) > 1 and all(it.shell_line() for it in commands) and not any("failed Missing" in it.printed for it in commands)
 
     def requests(self):
         """How many connections its commands make."""
@@ -133,16 +149,42 @@ class Run:
         self.status = ran.returncode
         return [line for line in ran.stdout.split("\n") if line] or ["(nothing)"]
 
+    def make_file(self, step):
+        """Makes the file that stands below a command."""
+        with open(f"{self.folder}/{step.file_name()}", "w", encoding="utf-8") as it:
+            it.write("".join(f"{line}\n" for line in step.printed))
+
+    def script(self):
+        """Runs all commands as lines of one shell, and gives what is wrong."""
+        for step in self.example.steps:
+            if step.file_name():
+                self.make_file(step)
+        steps = [it for it in self.example.steps if it.shell_line()]
+        with open(f"{self.room}/script", "w", encoding="utf-8") as it:
+            it.write("".join(f"{step.shell_line()}\n" for step in steps))
+        words = [self.program, "shell", "--db", "office.db", "--echo", f"{self.room}/script"]
+        ran = subprocess.run(words, cwd=self.folder, stdin=subprocess.DEVNULL, stdout=subprocess.PIPE, stderr=subprocess.STDOUT, text=True)
+        shutil.rmtree(self.room)
+        parts = ran.stdout.removeprefix("$ ftd ").split("\n$ ftd ")
+        wrong = [] if len(parts) == len(steps) else [f"{self.example.text}: lines of a shell: {len(parts)} answers of {len(steps)}: {self.example.title}"]
+        for number, (step, part) in enumerate(zip(steps, parts), 1):
+            lines = part.split("\n")
+            is_made = re.compile(r"hint: office\.db: it was not there, so ftd made it")
+            printed = [it for it in lines[1:] if it and it != f"line {number}: {step.shell_line()}" and not is_made.match(it)]
+            wanted = [it for it in step.printed if it != "(nothing)" and not is_made.match(it)]
+            if lines[0] != step.shell_line() or printed != wanted:
+                wrong.append(f"{self.example.text}:{step.line}: differs as a line of a shell: {step.command}")
+                wrong += [*[f"    printed  {it}" for it in printed], *[f"    wanted   {it}" for it in wanted]]
+        return wrong
+
     def step(self, number, step):
         """Runs a command, and gives what is wrong with what it prints."""
         if self.moves and number:
             self.move(number)
         if self.port and not self.server and "curl" in step.command:
             self.serve()
-        name = re.fullmatch(r"cat ([\w.-]+)", step.command)
-        if name and not os.path.exists(f"{self.folder}/{name[1]}"):
-            with open(f"{self.folder}/{name[1]}", "w", encoding="utf-8") as it:
-                it.write("".join(f"{line}\n" for line in step.printed))
+        if step.file_name() and not os.path.exists(f"{self.folder}/{step.file_name()}"):
+            self.make_file(step)
             return []
         wanted = step.printed or ["(nothing)"]
         try:
@@ -170,6 +212,12 @@ class Run:
                 self.server.wait()
             shutil.rmtree(self.room)
         return wrong
+
+
+def run(program, example, way):
+    """Runs an example in one of the three ways, and gives what is wrong."""
+    it = Run(example, program, way == "apart")
+    return it.script() if way == "script" else it.all()
 
 
 def never_run(texts):
@@ -202,9 +250,10 @@ def main():
     for text in every:
         found, of_text = examples_of(text)
         wrong += of_text
-        runs += [(it, False) for it in found] + [(it, True) for it in found if it.keeps_a_file()]
+        runs += [(it, "whole") for it in found] + [(it, "apart") for it in found if it.keeps_a_file()]
+        runs += [(it, "script") for it in found if it.is_script()]
     with concurrent.futures.ThreadPoolExecutor(os.cpu_count()) as pool:
-        told = [*pool.map(lambda it: Run(it[0], program, it[1]).all(), runs)]
+        told = [*pool.map(lambda it: run(program, *it), runs)]
     for line in [*wrong, *[line for it in told for line in it]]:
         print(line)
     commands = sum(len(it.steps) for it, _ in runs)

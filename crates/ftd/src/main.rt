@@ -11,8 +11,8 @@ mod shell;
 use crate::jobs::{local, report_fault};
 use crate::server::serve_file;
 use crate::shell::shell;
-use ftd_cli::{PlainTask, Task, decide};
-use ftd_files::{ProgramFault, standard_input, words};
+use ftd_cli::{PlainTask, Task, decide, with_file};
+use ftd_files::{ProgramFault, named_file, standard_input, words};
 use ftd_ports::Port;
 use ftd_program::{print_plain, tell};
 use std::io;
@@ -25,9 +25,18 @@ fn main(rt: HostRuntime) -> ExitCode {
     }
 }
 
+/// The words of the command line, with the file that the environment names where they name none.
+fn given_words(rt: &HostRuntime) -> Result<Vec<String>, ProgramFault> {
+    let words = words(rt)?;
+    match named_file(rt)? {
+        Some(file) => Ok(with_file(rt.alloc(), &file, &words)?),
+        None => Ok(words),
+    }
+}
+
 /// Does what the words ask, and gives the exit status.
 fn run(rt: &HostRuntime) -> Result<u8, ProgramFault> {
-    let words = words(rt)?;
+    let words = given_words(rt)?;
     match decide(rt.alloc(), &words) {
         Ok(task) => Ok(done(rt, task)),
         Err(fault) => {

@@ -12,7 +12,7 @@ use ftd_program::{Inputs, Script, Shell, Shows, Unread};
 use sqlite::FileStore;
 use sqlite_disk::Disk;
 use std::fs::File;
-use std::io::{self, BufRead, BufReader, IsTerminal};
+use std::io::{self, BufRead, BufReader, IsTerminal, LineWriter};
 
 /// The name by which standard input is given.
 const STANDARD_INPUT: &str = "-";
@@ -79,6 +79,8 @@ fn over_files<D: Disk + Drop, R: BufRead + Drop>(
     desk: Desk<FileStore<D>>,
     lines: Lines<'_, R>,
 ) -> Result<u8, ProgramFault> {
+    let out = Port::new(LineWriter::new(rt.alloc(), io::writer(rt))?);
+    let err = Port::new(rt.stderr());
     let mut shell = Shell {
         alloc: rt.alloc(),
         db: String::from_str(rt.alloc(), &task.db)?,
@@ -93,7 +95,6 @@ fn over_files<D: Disk + Drop, R: BufRead + Drop>(
         },
     };
     let mut lines = lines;
-    let (out, err) = (Port::new(io::writer(rt)), Port::new(rt.stderr()));
     let status = shell
         .answer_script(&mut lines, task.has_stop, out, err)
         .status;

@@ -7,4 +7,5 @@ pub mod Asking
 pub mod Escapes
 pub mod Tasks
 pub mod Lines
+pub mod Files
 pub use Rattle.ftd_days.specs.Spelling

@@ -162,7 +162,7 @@ impl Word {
     /// What help says of it.
     pub fn help<'a>(self) -> &'a str {
         match self {
-            Word::Db => "The database file; created if it does not exist",
+            Word::Db => "The database file; made if it is not there; FTD_DB where it is left out",
             Word::Wait => "How long to wait while another program has the file open, 0 to 3600",
             Word::Port => "The port to listen at, 1 to 65535, or 0 for a free one",
             Word::Connections => "How many connections to accept before exiting",

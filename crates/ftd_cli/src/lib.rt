@@ -7,6 +7,7 @@ mod command;
 mod deciding;
 mod escape;
 mod fault;
+mod file;
 mod help;
 mod lines;
 mod parse;
@@ -17,6 +18,7 @@ mod words;
 
 pub use crate::deciding::decide;
 pub use crate::escape::{escape_text, escape_word};
+pub use crate::file::with_file;
 pub use crate::lines::{Line, MOST_LINE, Piece, command_words, next_piece, read_line, shown_words};
 pub use crate::table::{NAMES, Name, Takes, Word};
 pub use crate::tasks::{CliFault, Job, LocalTask, PlainTask, ServeTask, ShellTask, Task};

@@ -131,7 +131,11 @@ pub fn read_line(alloc: Global, line: &[u8]) -> Result<Line, AllocError>
 }
 
 /// Adds copies of the words.
-fn push_copies(alloc: Global, words: &[String], all: &mut Vec<String>) -> Result<(), AllocError>
+pub(crate) fn push_copies(
+    alloc: Global,
+    words: &[String],
+    all: &mut Vec<String>,
+) -> Result<(), AllocError>
     ensures { IfOk result (λ _. map string_bytes all.new.items
         ≡ map string_bytes all.old.items ++ map string_bytes words.now) }
 {
@@ -142,7 +146,7 @@ fn push_copies(alloc: Global, words: &[String], all: &mut Vec<String>) -> Result
 }
 
 /// Whether the command that is named so takes the file of a desk.
-fn is_with_file(name: &str) -> bool
+pub(crate) fn is_with_file(name: &str) -> bool
     ensures { result ≡ is_with_file name.now }
 {
     match command_named(name) {

@@ -13,6 +13,9 @@ pub enum ProgramFault {
     /// A word of the command line is not UTF-8.
     #[error("error: a command-line argument is not valid UTF-8")]
     NotText,
+    /// The file that the environment names is not UTF-8.
+    #[error("error: the file in FTD_DB is not valid UTF-8")]
+    BadName,
     /// The database file can't be opened, made or read.
     #[error("failed File")]
     File,
@@ -52,7 +55,7 @@ impl ProgramFault {
     /// The exit status: 2 for a fault of usage, and else 3.
     pub fn status(self) -> u8 {
         match self {
-            ProgramFault::NotText => 2,
+            ProgramFault::NotText | ProgramFault::BadName => 2,
             _ => 3,
         }
     }

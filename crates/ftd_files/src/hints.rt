@@ -33,7 +33,10 @@ pub fn tell_fault(rt: &HostRuntime, fault: ProgramFault, db: &str, input: &str) 
                 "hint: another program may have the port; --port 0 takes a free one\n"
             );
         }
-        ProgramFault::NotText | ProgramFault::Memory | ProgramFault::Store => {}
+        ProgramFault::NotText
+        | ProgramFault::BadName
+        | ProgramFault::Memory
+        | ProgramFault::Store => {}
     }
 }
 

@@ -2,7 +2,7 @@
 
 use crate::faults::ProgramFault;
 use ftd_csv::MOST_BYTES;
-use std::env;
+use std::env::{self, VarError};
 use std::fs::File;
 use std::io::{ErrorKind, Read};
 
@@ -12,6 +12,20 @@ pub fn words(rt: &HostRuntime) -> Result<Vec<String>, ProgramFault> {
         Ok(words) => Ok(words.collect(rt.alloc())?),
         Err(error) if error.kind() == ErrorKind::InvalidData => Err(ProgramFault::NotText),
         Err(error) => Err(error.into()),
+    }
+}
+
+/// The name by which the environment names the file of a desk.
+const FILE: &str = "FTD_DB";
+
+/// The file that the environment names, where it names one. `BadName` where that is no UTF-8.
+pub fn named_file(rt: &HostRuntime) -> Result<Option<String>, ProgramFault> {
+    match env::var(rt, FILE) {
+        Ok(file) if file.is_empty() => Ok(None),
+        Ok(file) => Ok(Some(file)),
+        Err(VarError::NotPresent) => Ok(None),
+        Err(VarError::OutOfMemory) => Err(ProgramFault::Memory),
+        Err(_) => Err(ProgramFault::BadName),
     }
 }
 

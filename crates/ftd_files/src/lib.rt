@@ -12,5 +12,5 @@ mod opening;
 pub use crate::faults::ProgramFault;
 pub use crate::files::{close_files, desk_of, is_new};
 pub use crate::hints::{tell_fault, tell_made, unread_text};
-pub use crate::input::{import_input, standard_input, words};
+pub use crate::input::{import_input, named_file, standard_input, words};
 pub use crate::opening::{open_copy, open_database, open_with_short_log};
