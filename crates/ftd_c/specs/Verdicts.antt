@@ -1,5 +1,6 @@
 -- What the verdict for C is asked and answers.
 use Rattle.std.specs.Prelude.{◌≡◌, ℕ, ◌<◌, ◌≤◌}
+use Rattle.ftd_rules.specs.declared.TheConstants.{AMOUNTS_END}
 use Rattle.ftd_days.specs.Calendar.{last_day}
 use Rattle.ftd_rules.specs.declared.verdict.Case.{Case}
 use Rattle.ftd_rules.specs.declared.verdict.Verdict.{Verdict}
@@ -22,7 +23,7 @@ case_of c = record {
 
 -- the numbers are days, and the amount is one that an account can owe
 pub record MayBeJudged (c : FtdCase) : Type 0 where
-  pub amount : c.cents < 6_000_000_000_000_000
+  pub amount : c.cents < AMOUNTS_END
   pub due : c.due ≤ last_day
   pub makeup : c.makeup ≤ last_day
   pub return_due : c.return_due ≤ last_day

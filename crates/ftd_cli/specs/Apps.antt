@@ -4,6 +4,7 @@ use Rattle.std.specs.Prelude.{ℤ, pos}
 use Rattle.clap.specs.Words.{App, Rule, Text, new_app, new_rule, with_rule, with_subcommand}
 use Rattle.clap.specs.declared.builder.ArgAction.TheVariants.{Append, SetTrue}
 use Rattle.clap.specs.declared.builder.value_parser.ValueParser.TheVariants as parser
+use Rattle.ftd_cli.specs.declared.command.TheConstants.{MOST_SECONDS}
 use Rattle.ftd_cli.specs.declared.table.Name.{Name}
 use Rattle.ftd_cli.specs.declared.table.Word.{Word}
 use Rattle.ftd_cli.specs.declared.table.Word.TheVariants as word
@@ -16,7 +17,7 @@ use Rattle.ftd_verbs.specs.declared.field.Field.{Field}
 -- a whole number of seconds, from so many to 3,600; so many if none is given
 abbrev pub seconds_or : ℤ → Text → Rule → Rule
 seconds_or least default rule =
-    record rule { defaults = default ∷ []; parser = Some (parser.Signed least (pos 3600)) }
+    record rule { defaults = default ∷ []; parser = Some (parser.Signed least MOST_SECONDS) }
 
 -- what a word takes, as `clap` says it
 abbrev pub taking : Takes → Rule → Rule

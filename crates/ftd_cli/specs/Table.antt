@@ -1,5 +1,6 @@
 -- The subcommands and their words.
 use Rattle.std.specs.Prelude.{ℕ, List, [], ◌∷◌, Bool, true, false, codes, pos}
+use Rattle.ftd_cli.specs.declared.table.TheConstants.{LARGEST_NUMBER, LAST_PORT, MOST_CONNECTIONS}
 use Rattle.ftd_csv.specs.declared.sheets.Sheet.{Sheet}
 use Rattle.ftd_csv.specs.declared.sheets.Sheet.TheVariants as sheet
 use Rattle.ftd_verbs.specs.FieldRows.{kind_of}
@@ -124,9 +125,9 @@ is_option other = true
 -- what the word of a field of this kind takes
 abbrev pub kind_takes : Kind → Takes
 kind_takes kind.Account = takes.Text
-kind_takes kind.Number = takes.Number (pos 0) (pos 4294967295)
-kind_takes kind.NumberOrNext = takes.OptionalNumber (pos 0) (pos 4294967295)
-kind_takes kind.Year = takes.Number (pos 0) (pos 4294967295)
+kind_takes kind.Number = takes.Number (pos 0) LARGEST_NUMBER
+kind_takes kind.NumberOrNext = takes.OptionalNumber (pos 0) LARGEST_NUMBER
+kind_takes kind.Year = takes.Number (pos 0) LARGEST_NUMBER
 kind_takes kind.Day = takes.Text
 kind_takes kind.DayOrOther = takes.Optional
 kind_takes kind.Days = takes.Texts
@@ -140,8 +141,8 @@ kind_takes kind.Form = takes.Form
 abbrev pub takes_of : Word → Takes
 takes_of word.Db = takes.Text
 takes_of word.Wait = takes.Wait
-takes_of word.Port = takes.Number (pos 0) (pos 65535)
-takes_of word.Connections = takes.Number (pos 1) (pos 1000000)
+takes_of word.Port = takes.Number (pos 0) LAST_PORT
+takes_of word.Connections = takes.Number (pos 1) MOST_CONNECTIONS
 takes_of word.Idle = takes.Idle
 takes_of word.Silence = takes.Silence
 takes_of word.Duration = takes.Duration

@@ -16,6 +16,9 @@ use std::alloc::{AllocError, Global};
 const ABOUT: &str =
     "Federal tax deposits by Pub. 15, section 11. ftd COMMAND --help has an example.";
 
+/// How many seconds a word may give.
+const MOST_SECONDS: i64 = 3_600;
+
 /// An argument that takes a whole number of seconds, at least so many and at most 3,600; so many if
 /// it is not there.
 fn seconds_or<'a>(arg: Arg<'a>, least: i64, default: &'a str) -> Arg<'a>
@@ -23,7 +26,7 @@ fn seconds_or<'a>(arg: Arg<'a>, least: i64, default: &'a str) -> Arg<'a>
     ensures local { result.global ≡ arg.entry.global }
 {
     arg.default_value(default)
-        .value_parser(ValueParser::Signed(least, 3600))
+        .value_parser(ValueParser::Signed(least, MOST_SECONDS))
 }
 
 /// A word as an argument.

@@ -218,8 +218,8 @@ fn kind_takes(kind: Kind) -> Takes
 {
     match kind {
         Kind::Account | Kind::Day | Kind::Quarter | Kind::Amount | Kind::Answer => Takes::Text,
-        Kind::Number | Kind::Year => Takes::Number(0, 4_294_967_295),
-        Kind::NumberOrNext => Takes::OptionalNumber(0, 4_294_967_295),
+        Kind::Number | Kind::Year => Takes::Number(0, LARGEST_NUMBER),
+        Kind::NumberOrNext => Takes::OptionalNumber(0, LARGEST_NUMBER),
         Kind::DayOrOther => Takes::Optional,
         Kind::Days => Takes::Texts,
         Kind::Mark => Takes::Nothing,
@@ -269,8 +269,8 @@ impl Word {
         match self {
             Word::Db | Word::CsvFile => Takes::Text,
             Word::Wait => Takes::Wait,
-            Word::Port => Takes::Number(0, 65_535),
-            Word::Connections => Takes::Number(1, 1_000_000),
+            Word::Port => Takes::Number(0, LAST_PORT),
+            Word::Connections => Takes::Number(1, MOST_CONNECTIONS),
             Word::Idle => Takes::Idle,
             Word::Silence => Takes::Silence,
             Word::Duration => Takes::Duration,
@@ -289,6 +289,15 @@ impl Word {
         matches!(self.takes(), Takes::Texts)
     }
 }
+
+/// The largest whole number that a word may have.
+const LARGEST_NUMBER: i64 = 4_294_967_295;
+
+/// The last port.
+const LAST_PORT: i64 = 65_535;
+
+/// How many connections a server may be asked to take.
+const MOST_CONNECTIONS: i64 = 1_000_000;
 
 /// The subcommands, as help lists them: in the order in which an employer needs them.
 pub const NAMES: [Name; 34] = [

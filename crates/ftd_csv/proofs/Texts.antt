@@ -6,7 +6,7 @@ use Rattle.std.specs.Cmp.Lexicographic.{pointwise}
 use Rattle.std.specs.List.{flat_map, slice_get}
 use Rattle.std.proofs.lemmas.Bool.Decides.{Decides-and, Decides-like, nat_tests}
 use Rattle.std.proofs.lemmas.Slice.Eq.{bytes_eq-Decides, slice_eq-Decides}
-use Rattle.ftd_csv.specs.Answers.{most_bytes}
+use Rattle.ftd_csv.specs.declared.reading.TheConstants.{MOST_BYTES}
 use Rattle.ftd_csv.specs.Places.{Opens}
 use Rattle.ftd_csv.specs.Records.{HasHeader, rows_of}
 use Rattle.ftd_csv.specs.Sheets.{header_row}
@@ -29,9 +29,9 @@ length_decides count most = (λ e. grind (arith, nat_tests), λ h. grind (arith,
 
 -- the test says whether the text is short enough and has the header
 pub records_decide : (kind : Sheet) (text : List ℕ)
-    → Decides (has_records kind text) ((length text ≤ most_bytes) × HasHeader kind text)
+    → Decides (has_records kind text) ((length text ≤ MOST_BYTES) × HasHeader kind text)
 records_decide kind text =
-    Decides-and _ _ (length_decides (length text) most_bytes) (header_decides kind (rows_of text))
+    Decides-and _ _ (length_decides (length text) MOST_BYTES) (header_decides kind (rows_of text))
 
 is_false : {P : Type 0} (b : Bool) → Decides b P → ¬ P → b ≡ false
 is_false true d n = absurd (n (d.0 refl))
@@ -43,7 +43,7 @@ none_taken kind (suc most) = refl
 
 -- a text with no records has no hints
 pub no_hints : (kind : Sheet) (most : ℕ) (text : List ℕ)
-    → ¬ ((length text ≤ most_bytes) × HasHeader kind text) → record_hints kind most text ≡ []
+    → ¬ ((length text ≤ MOST_BYTES) × HasHeader kind text) → record_hints kind most text ≡ []
 unfolding record_hints
 no_hints kind most text none =
     let no = is_false (has_records kind text) (records_decide kind text) none in

@@ -1,16 +1,13 @@
 -- What the reading of a text answers.
 use Rattle.std.specs.Prelude.{◌<◌, ◌≤◌, ℕ, List, length, ⊤}
+use Rattle.ftd_csv.specs.declared.reading.TheConstants.{MOST_BYTES}
 use Rattle.ftd_csv.specs.Records.{HasHeader}
 use Rattle.ftd_csv.specs.declared.reading.RecordFault.{RecordFault}
 use Rattle.ftd_csv.specs.declared.reading.RecordFault.TheVariants as fault
 use Rattle.ftd_csv.specs.declared.sheets.Sheet.{Sheet}
 
--- the most bytes of a text, 16 MiB
-abbrev pub most_bytes : ℕ
-most_bytes = 16_777_216
-
 -- where each fault stands; want of memory may come at any point
 abbrev pub RecordsFail : Sheet → List ℕ → RecordFault → Type 0
-RecordsFail kind text fault.TooLong = most_bytes < length text
-RecordsFail kind text fault.BadHeader = (length text ≤ most_bytes) × ¬ HasHeader kind text
+RecordsFail kind text fault.TooLong = MOST_BYTES < length text
+RecordsFail kind text fault.BadHeader = (length text ≤ MOST_BYTES) × ¬ HasHeader kind text
 RecordsFail kind text fault.Memory = ⊤

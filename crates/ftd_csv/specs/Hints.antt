@@ -4,7 +4,7 @@ use Rattle.std.specs.Prelude.{◌∷◌, Option, Some, None, codes, length, take
 use Rattle.std.specs.Cmp.Lexicographic.{pointwise}
 use Rattle.std.specs.Fmt.{decimal}
 use Rattle.std.specs.List.{concat, enumerate_from, flat_map}
-use Rattle.ftd_csv.specs.Answers.{most_bytes}
+use Rattle.ftd_csv.specs.declared.reading.TheConstants.{MOST_BYTES}
 use Rattle.ftd_csv.specs.Fields.{numbered_field}
 use Rattle.ftd_csv.specs.Records.{entry_in, record_rows, rows_of}
 use Rattle.ftd_csv.specs.Sheets.{header_row, width_of}
@@ -68,7 +68,7 @@ begins_with_header kind (first ∷ rows) = pointwise bytes_eq first (header_row 
 -- the text is not too long and has the header
 abbrev pub has_records : Sheet → List ℕ → Bool
 has_records kind text =
-    nat_le (length text) most_bytes && begins_with_header kind (rows_of text)
+    nat_le (length text) MOST_BYTES && begins_with_header kind (rows_of text)
 
 -- the malformed records of a text, each with its number: the header is record 1
 abbrev pub malformed_records : Sheet → List ℕ → List Numbered

@@ -1,7 +1,7 @@
 -- Where a reader of the records of a text stands.
 use Rattle.std.specs.Prelude.{◌≡◌, ◌<◌, ◌≤◌, ◌+◌, ◌^◌, ◌∷◌, ℕ, List, length, map}
 use Rattle.csv.specs.Records.{fields_of}
-use Rattle.ftd_csv.specs.Answers.{most_bytes}
+use Rattle.ftd_csv.specs.declared.reading.TheConstants.{MOST_BYTES}
 use Rattle.ftd_csv.specs.Records.{HasHeader, entry_in, numbered_from, record_rows}
 use Rattle.ftd_csv.specs.Rows.{IsReading, rows_left}
 use Rattle.ftd_csv.specs.declared.entries.Content.{Content}
@@ -51,7 +51,7 @@ pub record Advances (old new : Records) : Type 0 where
 -- these are the records of the text, which is not too long and has the sheet's header. Records are
 -- numbered from 1, and the header is record 1.
 pub record Opens (kind : Sheet) (text : List ℕ) (records : Records) : Type 0 where
-  pub short : length text ≤ most_bytes
+  pub short : length text ≤ MOST_BYTES
   pub header : HasHeader kind text
   pub sheet : sheet_of records ≡ kind
   pub number : number_of records ≡ 1

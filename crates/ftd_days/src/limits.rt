@@ -32,5 +32,8 @@ pub const LAST_OPEN_YEAR: u32 = 2098;
 /// it or before.
 pub const LAST_YEAR: u32 = 2099;
 
+/// An amount as text has at most nine digits of dollars: it is less than so many cents.
+pub const SPELLED_END: u64 = 100_000_000_000;
+
 /// The most holidays of a year, those that were given and those that were added.
 pub const MOST_HOLIDAYS: usize = 60;

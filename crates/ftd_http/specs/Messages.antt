@@ -5,6 +5,7 @@ use Rattle.std.specs.List.{flat_map}
 use Rattle.httparse.specs.Grammar.{RequestHead, IsRequestHead, ReadsRequest, HasNoRequest}
 use Rattle.httparse.specs.Grammar.{NeverHasRequest, MayBecomeRequest, EndsInTarget, print_request}
 use Rattle.httparse.specs.Spans.{RequestExceeds, RequestOverflows, name_and_value}
+use Rattle.ftd_http.specs.declared.look.TheConstants.{MOST_FIELDS}
 use Rattle.ftd_http.specs.declared.look.TheConstants.{HEAD_LIMIT}
 use Rattle.ftd_http.specs.Heads.{body_length_of, asks_to_close}
 use Rattle.ftd_http.specs.declared.status.Status.{Status}
@@ -18,7 +19,7 @@ body_length head = body_length_of head.method (map name_and_value head.fields)
 pub record IsHead (head : RequestHead) : Type 0 where
   pub valid : IsRequestHead head
   pub short : length (print_request head) ≤ HEAD_LIMIT
-  pub few : length head.fields ≤ 64
+  pub few : length head.fields ≤ MOST_FIELDS
 
 -- a message: a head and its body
 pub record Message : Type 0 where
@@ -49,7 +50,8 @@ closes message = asks_to_close message.head.minor (map name_and_value message.he
 pub data IsRefused (rest : List ℕ) : Status → Type 0 where
   long : (head : RequestHead) (after : List ℕ) → ReadsRequest rest head after
       → HEAD_LIMIT < length (print_request head) → IsRefused rest BadRequest
-  many : RequestOverflows 64 rest → RequestExceeds 64 rest → IsRefused rest BadRequest
+  many : RequestOverflows MOST_FIELDS rest → RequestExceeds MOST_FIELDS rest
+      → IsRefused rest BadRequest
   full : HasNoRequest rest → HEAD_LIMIT ≤ length rest → IsRefused rest BadRequest
   never : NeverHasRequest rest → IsRefused rest BadRequest
   fault : (head : RequestHead) (after : List ℕ) (status : Status) → IsHead head
@@ -67,4 +69,4 @@ pub data IsCut (rest : List ℕ) : Type 0 where
 -- the stream ends inside a request target, or more than 64 fields stand in a head: a message there
 -- may be cut and refused
 abbrev pub MayBeCutOrRefused : List ℕ → Type 0
-MayBeCutOrRefused rest = EndsInTarget rest ⊎ RequestExceeds 64 rest
+MayBeCutOrRefused rest = EndsInTarget rest ⊎ RequestExceeds MOST_FIELDS rest

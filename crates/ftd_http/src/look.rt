@@ -9,6 +9,9 @@ use crate::lengths::{asks_to_close, body_length};
 use httparse::Status as Parsed;
 use httparse::spans::{HeaderSpan, RequestSpans, Span, parse_request};
 
+/// How many fields a head may have.
+pub const MOST_FIELDS: usize = 64;
+
 /// The greatest length of a head, with its empty line.
 pub const HEAD_LIMIT: usize = 16_384;
 
@@ -40,7 +43,7 @@ pub enum Look {
 
 /// Looks for a message at the front of the bytes.
 pub fn look_at(buf: &[u8], headers: &mut [HeaderSpan]) -> Look
-    requires { length headers.old ≡ 64 }
+    requires { length headers.old ≡ MOST_FIELDS }
     ensures { IsLook buf.now result }
 {
     match parse_request(buf, headers) {
@@ -58,7 +61,7 @@ pub fn look_at(buf: &[u8], headers: &mut [HeaderSpan]) -> Look
 
 /// Looks for the body after a head.
 fn frame(buf: &[u8], head: RequestSpans, headers: &[HeaderSpan]) -> Look
-    requires room { length headers.now ≡ 64 }
+    requires room { length headers.now ≡ MOST_FIELDS }
     requires head { IsRequestOf buf.now headers.now head }
     requires within { IsRequestWithin buf.now headers.now head }
     ensures { IsLook buf.now result }

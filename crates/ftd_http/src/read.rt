@@ -6,7 +6,7 @@ ghost use Rattle.std.specs.Io.KnownBytes.{IsAtEnd};
 ghost use Rattle.ftd_http.specs.Reading.{Reads, Takes, IsNext};
 
 use crate::Status;
-use crate::look::{Look, Parts, look_at};
+use crate::look::{Look, MOST_FIELDS, Parts, look_at};
 use crate::peer::Peer;
 use ftd_ports::Source;
 use httparse::spans::EMPTY_HEADER_SPAN;
@@ -61,7 +61,7 @@ fn read_message<R: Source>(source: &mut R, buf: &mut Vec<u8>) -> Result<Next, Re
     ensures takes { OnErr result (Takes (R.left source.old) (R.left source.new)) }
     ensures fault { IsErrOf result ReadFault.Read → R.failed source.new ≡ true }
 {
-    let mut headers = [EMPTY_HEADER_SPAN; 64];
+    let mut headers = [EMPTY_HEADER_SPAN; MOST_FIELDS];
     let mut ended = false;
     'looks: loop {
         match look_at(buf, &mut headers) {

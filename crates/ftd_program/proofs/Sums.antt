@@ -12,6 +12,7 @@ use Rattle.std.proofs.lemmas.List.Elements.{All-map, All-weaker}
 use Rattle.std.proofs.lemmas.List.Sums.{sum_by-le}
 use Rattle.std.proofs.lemmas.Option.{same_Some}
 use Rattle.std.proofs.lemmas.Bool.{and_parts}
+use Rattle.ftd_csv.specs.declared.reading.TheConstants.{MOST_BYTES}
 use Rattle.ftd_machine.specs.declared.limits.TheConstants.{MOST_ENTRIES}
 use Rattle.ftd_days.specs.Calendar.{month_of, year_of, year_start}
 use Rattle.ftd_days.proofs.Months.{early_year, in_month, month_start-mono}
@@ -20,7 +21,7 @@ use Rattle.ftd_rules.specs.declared.YearLine.{YearLine}
 use Rattle.ftd_rules.specs.Liability.{cents_of as sum_cents}
 use Rattle.ftd_rules.specs.Lists.{Has}
 use Rattle.ftd_rules.specs.Years.{LiesInYears, basis_of, year_last}
-use Rattle.ftd_csv.specs.Answers.{RecordsFail, most_bytes}
+use Rattle.ftd_csv.specs.Answers.{RecordsFail}
 use Rattle.ftd_csv.specs.declared.reading.RecordFault.{RecordFault}
 use Rattle.ftd_csv.specs.declared.reading.RecordFault.TheVariants as records
 use Rattle.ftd_program.specs.Faults.{text_fault}
@@ -298,7 +299,7 @@ record_fault csv account year holidays fault.Memory at h = tt
 
 -- why the text has no records
 pub text_fails : (csv account : List ℕ) (year : ℕ) (holidays : List ℕ) (f : RecordFault)
-    → length csv ≤ most_bytes → IsCalendar year holidays → RecordsFail Runs csv f
+    → length csv ≤ MOST_BYTES → IsCalendar year holidays → RecordsFail Runs csv f
     → PlainFails csv account year holidays (text_fault f)
 text_fails csv account year holidays records.BadHeader short calendar (_, header) =
     (short, calendar, header)
@@ -314,7 +315,7 @@ stops_fault csv account year holidays f at (inr first) = record_fault csv accoun
     first
 
 pub calendar_fault_of : (csv account : List ℕ) (year : ℕ) (holidays : List ℕ) (f : PlainFault)
-    → length csv ≤ most_bytes → CalendarFails year holidays f
+    → length csv ≤ MOST_BYTES → CalendarFails year holidays f
     → PlainFails csv account year holidays f
 calendar_fault_of csv account year holidays f short (inl memory) = rw memory tt
 calendar_fault_of csv account year holidays f short (inr (bad, wrong)) = rw bad (short, wrong)

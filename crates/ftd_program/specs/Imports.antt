@@ -3,8 +3,8 @@ use Rattle.std.specs.Prelude.{◌≡◌, ◌⊎◌, ◌<◌, ◌≤◌, ◌+◌,
 use Rattle.std.specs.Prelude.{List, Some, Err, length, map}
 use Rattle.std.specs.List.{filter_map}
 use Rattle.sqlite.specs.Tree.{Trees}
+use Rattle.ftd_csv.specs.declared.reading.TheConstants.{MOST_BYTES}
 use Rattle.ftd_program.specs.declared.lists.TheConstants.{TOGETHER}
-use Rattle.ftd_csv.specs.Answers.{most_bytes}
 use Rattle.ftd_csv.specs.Records.{HasHeader, numbered_from, records_of}
 use Rattle.ftd_csv.specs.declared.entries.Content.{Content}
 use Rattle.ftd_csv.specs.declared.sheets.Sheet.{Sheet}
@@ -134,7 +134,7 @@ numbered_in kind text = numbered_from 2 (records_of kind text)
 -- the entries of the text were posted, each in its place, and this is the summary of its records
 pub record Imports (old new : Held) (kind : Sheet) (text : List ℕ) (summary : Summary)
     : Type 0 where
-  pub short : length text ≤ most_bytes
+  pub short : length text ≤ MOST_BYTES
   pub header : HasHeader kind text
   pub outcomes : List Outcome
   pub are : AreOutcomes (numbered_in kind text) outcomes
@@ -145,7 +145,7 @@ pub record Imports (old new : Held) (kind : Sheet) (text : List ℕ) (summary : 
 -- this is their summary
 pub record StopsAmong (failed : Type 0) (old new : Held) (kind : Sheet) (text : List ℕ)
     (done : Summary) (why : StopCause) : Type 0 where
-  pub short : length text ≤ most_bytes
+  pub short : length text ≤ MOST_BYTES
   pub header : HasHeader kind text
   pub stops : StopsWithin failed old new (numbered_in kind text)
       (λ outcomes. IsSummary outcomes done) why
@@ -157,9 +157,9 @@ StopsFirst old new done = IsNothing done × Asks ⊥ old new []
 -- where each cause stands; want of memory may come before there are records, or at one of them
 abbrev pub StopsFor : Type 0 → Held → Held → Sheet → List ℕ → Summary → StopCause → Type 0
 StopsFor failed old new kind text done cause.TooLong =
-    (most_bytes < length text) × StopsFirst old new done
+    (MOST_BYTES < length text) × StopsFirst old new done
 StopsFor failed old new kind text done cause.BadHeader =
-    (length text ≤ most_bytes) × ¬ HasHeader kind text × StopsFirst old new done
+    (length text ≤ MOST_BYTES) × ¬ HasHeader kind text × StopsFirst old new done
 StopsFor failed old new kind text done cause.Memory =
     StopsFirst old new done ⊎ StopsAmong failed old new kind text done cause.Memory
 StopsFor failed old new kind text done cause.Store =

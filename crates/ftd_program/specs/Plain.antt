@@ -5,6 +5,7 @@ use Rattle.std.specs.Prelude.{Contains, count_by, if◌then◌else◌, ⊤}
 use Rattle.std.specs.List.{filter_map, flat_map}
 use Rattle.std.specs.List.Sorted.{IsStrictlyIncreasing}
 use Rattle.std.specs.Str.{bytes_eq}
+use Rattle.ftd_csv.specs.declared.reading.TheConstants.{MOST_BYTES}
 use Rattle.ftd_days.specs.declared.limits.TheConstants.{MOST_HOLIDAYS}
 use Rattle.ftd_days.specs.Calendar.{year_of}
 use Rattle.ftd_rules.specs.declared.DaySum.{DaySum}
@@ -16,7 +17,6 @@ use Rattle.ftd_rules.specs.Liability.{run_liability}
 use Rattle.ftd_rules.specs.Years.{AreLines}
 use Rattle.ftd_rules.specs.Obligations.{AreObligations}
 use Rattle.ftd_rules.specs.Text.{obligation_text}
-use Rattle.ftd_csv.specs.Answers.{most_bytes}
 use Rattle.ftd_csv.specs.declared.sheets.Sheet.TheVariants.{Runs}
 use Rattle.ftd_csv.specs.Records.{HasHeader, records_of}
 use Rattle.ftd_csv.specs.declared.entries.Content.{Content}
@@ -143,17 +143,17 @@ pub record Deposits (account : List ℕ) (year : ℕ) (holidays : List ℕ) (rec
 -- the records of the text are looked at: it is not too long, the holidays are a calendar, and it
 -- has the header
 pub record IsLookedAt (csv : List ℕ) (year : ℕ) (holidays : List ℕ) : Type 0 where
-  pub short : length csv ≤ most_bytes
+  pub short : length csv ≤ MOST_BYTES
   pub calendar : IsCalendar year holidays
   pub header : HasHeader Runs csv
 
 -- where each fault of `plain` stands; want of memory may come at any point
 abbrev pub PlainFails : List ℕ → List ℕ → ℕ → List ℕ → PlainFault → Type 0
-PlainFails csv account year holidays fault.TooLong = most_bytes < length csv
+PlainFails csv account year holidays fault.TooLong = MOST_BYTES < length csv
 PlainFails csv account year holidays fault.BadCalendar =
-    (length csv ≤ most_bytes) × ¬ IsCalendar year holidays
+    (length csv ≤ MOST_BYTES) × ¬ IsCalendar year holidays
 PlainFails csv account year holidays fault.BadHeader =
-    (length csv ≤ most_bytes) × IsCalendar year holidays × ¬ HasHeader Runs csv
+    (length csv ≤ MOST_BYTES) × IsCalendar year holidays × ¬ HasHeader Runs csv
 PlainFails csv account year holidays (fault.Malformed number field) =
     IsLookedAt csv year holidays
     × FirstFault account year (run_records csv) (fault.Malformed number field)

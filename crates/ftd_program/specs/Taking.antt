@@ -5,6 +5,7 @@ use Rattle.std.specs.Prelude.{true, MatchBool, Contains, ◌↔◌, ◌++◌}
 use Rattle.std.specs.Map.{lookup}
 use Rattle.std.specs.BTreeMap.{is_at, insert_entry}
 use Rattle.std.specs.Ordering.{nat_cmp}
+use Rattle.ftd_days.specs.declared.limits.TheConstants.{SPELLED_END}
 use Rattle.ftd_machine.specs.declared.limits.TheConstants.{MOST_ENTRIES}
 use Rattle.ftd_rules.specs.declared.DaySum.{DaySum}
 use Rattle.ftd_rules.specs.declared.run.PayRun.{PayRun}
@@ -74,9 +75,9 @@ sum_of kept =
 
 -- its amounts are below 1,000,000,000.00
 pub record IsSmall (kept : PayRun) : Type 0 where
-  pub fit : kept.fit.0 < 100_000_000_000
-  pub ss : kept.ss.0 < 100_000_000_000
-  pub medicare : kept.medicare.0 < 100_000_000_000
+  pub fit : kept.fit.0 < SPELLED_END
+  pub ss : kept.ss.0 < SPELLED_END
+  pub medicare : kept.medicare.0 < SPELLED_END
 
 -- all records were read
 pub record TakesAll (account : List ℕ) (year : ℕ) (records : List SaidRun)

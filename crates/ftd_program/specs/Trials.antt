@@ -2,7 +2,7 @@
 use Rattle.std.specs.Prelude.{◌<◌, ◌≤◌, ℕ, List, length, ⊤}
 use Rattle.std.specs.List.{filter_map}
 use Rattle.sqlite.specs.State.{HasCleanDisk}
-use Rattle.ftd_csv.specs.Answers.{most_bytes}
+use Rattle.ftd_csv.specs.declared.reading.TheConstants.{MOST_BYTES}
 use Rattle.ftd_csv.specs.Records.{HasHeader}
 use Rattle.ftd_csv.specs.declared.entries.Content.{Content}
 use Rattle.ftd_csv.specs.declared.sheets.Sheet.{Sheet}
@@ -35,7 +35,7 @@ pub record WouldPost (old new : Held) (records : List (ℕ × Content)) (before 
 -- records
 pub record WouldImport (old new : Held) (kind : Sheet) (text : List ℕ) (summary : Summary)
     : Type 0 where
-  pub short : length text ≤ most_bytes
+  pub short : length text ≤ MOST_BYTES
   pub header : HasHeader kind text
   pub outcomes : List Outcome
   pub are : AreOutcomes (numbered_in kind text) outcomes
@@ -44,8 +44,8 @@ pub record WouldImport (old new : Held) (kind : Sheet) (text : List ℕ) (summar
 
 -- where each cause stands; want of memory and a fault of the store may come at any point
 abbrev pub FailsFor : Sheet → List ℕ → StopCause → Type 0
-FailsFor kind text cause.TooLong = most_bytes < length text
-FailsFor kind text cause.BadHeader = (length text ≤ most_bytes) × ¬ HasHeader kind text
+FailsFor kind text cause.TooLong = MOST_BYTES < length text
+FailsFor kind text cause.BadHeader = (length text ≤ MOST_BYTES) × ¬ HasHeader kind text
 FailsFor kind text cause.Memory = ⊤
 FailsFor kind text cause.Store = ⊤
 

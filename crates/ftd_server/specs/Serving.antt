@@ -1,7 +1,8 @@
 -- What is served on a connection.
-use Rattle.std.specs.Prelude.{◌≡◌, ◌≢◌, ◌<◌, ◌+◌, ◌++◌, ℕ, ◌==◌, ◌||◌, Bool, true, false, List, []}
-use Rattle.std.specs.Prelude.{◌∷◌, length, All, Option, Some, None, Result, Ok, Err}
+use Rattle.std.specs.Prelude.{◌-◌, ◌≡◌, ◌≢◌, ◌<◌, ◌+◌, ◌++◌, ℕ, ◌==◌, ◌||◌, Bool, true, false}
+use Rattle.std.specs.Prelude.{List, [], ◌∷◌, length, All, Option, Some, None, Result, Ok, Err}
 use Rattle.std.specs.Io.KnownBytes.{Consumes, Appends, IsAtEnd}
+use Rattle.ftd_server.specs.declared.connection.TheConstants.{MOST_MESSAGES}
 use Rattle.ftd_http.specs.Messages.{Message, IsMessage, message_bytes, AreMessages, closes}
 use Rattle.ftd_http.specs.Messages.{IsRefused, IsCut}
 use Rattle.ftd_http.specs.declared.status.Status.{Status}
@@ -20,7 +21,7 @@ use Rattle.ftd_server.specs.declared.connection.ServeFault.{ServeFault}
 -- fewer than 100 messages, after none of which the connection closes
 pub record AreOpen (messages : List Message) : Type 0 where
   pub stay : All (λ message. closes message ≡ false) messages
-  pub few : length messages < 100
+  pub few : length messages < MOST_MESSAGES
 
 -- How a stream ends after these messages, where `rest` is what comes after them: between two
 -- messages, since the peer closed it or was idle for too long; inside one; with one that its head
@@ -37,12 +38,12 @@ pub data Ends (rest : List ℕ) : List Message → Option Status → End → Typ
   asked : (messages : List Message) (last : Message) → AreOpen messages → closes last ≡ true
       → Ends rest (messages ++ last ∷ []) None end.Asked
   limit : (messages : List Message) (last : Message) → AreOpen messages → closes last ≡ false
-      → length messages ≡ 99
+      → length messages ≡ MOST_MESSAGES - 1
       → Ends rest (messages ++ last ∷ []) None end.Limit
 
 -- the connection closes after the answer to a message that comes after so many others
 abbrev pub closes_after : ℕ → Message → Bool
-closes_after before message = closes message || (before == 99)
+closes_after before message = closes message || (before == MOST_MESSAGES - 1)
 
 -- the answer to a refused message
 abbrev pub refusal_text : Option Status → List ℕ
@@ -167,7 +168,7 @@ module _ {M : Type 0} (goes : M → Request → Answer → M → Type 0) where
       (kept kept' : List ℕ) (answered : ℕ) where
     abbrev pub Proceeds : Result (Option ServedConnection) ServeFault → Type 0
     Proceeds (Ok None) =
-        (answered < 99) × ((start : M) (first said : Option (List ℕ))
+        (answered < MOST_MESSAGES - 1) × ((start : M) (first said : Option (List ℕ))
         → Talk start now first left said taken kept answered
         → Talk start later first left' said taken' kept' (answered + 1))
     Proceeds (Ok (Some served)) =

@@ -1,6 +1,7 @@
 //! Serving a connection.
 
-ghost use Rattle.std.specs.Prelude.{Some, ◌||◌, ◌==◌, ◌≡◌, ◌<◌, ◌≤◌, List, ℕ, true, false};
+ghost use Rattle.std.specs.Prelude.{Some, ◌||◌, ◌-◌, ◌==◌, ◌≡◌, ◌<◌, ◌≤◌, List, ℕ};
+ghost use Rattle.std.specs.Prelude.{true, false};
 ghost use Rattle.std.specs.Prelude.{IfOk, IfErr, OnOk, drop, vec_len};
 ghost use Rattle.std.specs.Io.KnownBytes.{Appends};
 ghost use Rattle.ftd_ports.specs.Writing.{Writes};
@@ -67,7 +68,7 @@ pub struct ServeFault {
 }
 
 /// How many messages are answered on one connection.
-const LIMIT: u32 = 100;
+const MOST_MESSAGES: u32 = 100;
 
 /// Serves one connection: reads messages from the source, has each answered, and writes the answers
 /// to the target.
@@ -110,7 +111,7 @@ fn serve_next<By, M: Machine<By>, R: Peer, W: Target>(
     answered: u32,
 ) -> Result<Option<ServedConnection>, ServeFault>
     requires routes { router.now ≡ all_routes }
-    requires few { answered < 100 }
+    requires few { answered < MOST_MESSAGES }
     ensures { Proceeds M.goes machine.old machine.new
         (R.left source.old) (R.left source.new) (R.idle source.new) (R.failed source.new)
         (W.taken target.old) (W.taken target.new) (W.failed target.new)
@@ -139,7 +140,7 @@ fn serve_next<By, M: Machine<By>, R: Peer, W: Target>(
     if parts.closes {
         return Ok(Some(ended(answered + 1, End::Asked)));
     }
-    if answered == LIMIT - 1 {
+    if answered == MOST_MESSAGES - 1 {
         return Ok(Some(ended(answered + 1, End::Limit)));
     }
     Ok(None)
@@ -161,9 +162,9 @@ fn failed(answered: u32, cause: Cause) -> ServeFault
 
 /// Whether the connection closes after the answer to a message that comes after so many others.
 fn closes_after(answered: u32, closes: bool) -> bool
-    ensures { result ≡ (closes || (answered == 99)) }
+    ensures { result ≡ (closes || (answered == MOST_MESSAGES - 1)) }
 {
-    closes || answered == LIMIT - 1
+    closes || answered == MOST_MESSAGES - 1
 }
 
 /// Answers a message that is refused by its head.

@@ -1,6 +1,7 @@
 -- What a verb asks, by what its fields say: each field in its order, or the first that has no value
 -- of its kind.
 use Rattle.std.specs.Prelude.{ℕ, ◌+◌, ◌-◌, min, Bool, List, Result, Ok, Err, if◌then◌else◌}
+use Rattle.ftd_days.specs.declared.limits.TheConstants.{LAST_YEAR}
 use Rattle.ftd_days.specs.Calendar.{last_day, year_start}
 use Rattle.ftd_days.specs.declared.cents.Cents.{Cents}
 use Rattle.ftd_rules.specs.declared.Form.{Form}
@@ -215,7 +216,7 @@ agenda said = do
 
 -- all days up to the last that may be asked of, 2099-12-31, where the last day is left out
 abbrev pub last_asked : ℕ
-last_asked = year_start 2100 - 1
+last_asked = year_start (LAST_YEAR + 1) - 1
 
 unfoldable pub unapplied : Said → Result Request Field
 unapplied said = do
