@@ -11,11 +11,15 @@ use Rattle.ftd_machine.proofs.Adding.{own_name}
 use Rattle.ftd_machine.proofs.Keeping.{same_key}
 use Rattle.ftd_machine.proofs.Members.{found_some, has_filtered}
 
+pub same_place : {X : Type 0} (x y : Entry X) → x.name ≡ y.name → x.key ≡ y.key
+    → place_of x ≡ place_of y
+same_place x y names keys = rw (names, keys) refl
+
 module _ {X : Type 0} (name : List ℕ) where
   abbrev own : List (Entry X) → List (Entry X)
   own xs = filter (is_of name) xs
 
-  its_own : (e : Entry X) → e.name ≡ name → bytes_eq e.name name ≡ true
+  pub its_own : (e : Entry X) → e.name ≡ name → is_of name e ≡ true
   its_own e named = ap (λ n. bytes_eq n name) named ∙ own_name name
 
   first_kept : (z : Entry X) (xs : List (Entry X)) → bytes_eq z.name name ≡ true
@@ -36,13 +40,10 @@ module _ {X : Type 0} (name : List ℕ) where
         | inl mine ↦ elim (cases_Bool (z.key == e.key)) [
           | inr apart ↦ rw (mine, apart) rest
           | inl same ↦ absurd (distinct.0 e has
-              (both_same (named ∙ sym (same_text z.name name mine))
+              (same_place e z (named ∙ sym (same_text z.name name mine))
               (sym (eqb-true z.key e.key same))))
         ]
       ]
-    where
-      both_same : e.name ≡ z.name → e.key ≡ z.key → place_of e ≡ place_of z
-      both_same a b = rw (a, b) refl
 
   -- what is kept under a key is the content of an entry of the account
   pub of_kept : (xs : List (Entry X)) → AreDistinct place_of xs → (key : ℕ) (content : X)

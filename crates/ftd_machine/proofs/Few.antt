@@ -18,16 +18,17 @@ use Rattle.ftd_machine.specs.Requests.{days_of_year}
 use Rattle.ftd_machine.specs.Sound.{AreDistinct, year_of_calendar}
 use Rattle.ftd_machine.proofs.Keeping.{same_key, is_year}
 
-abbrev lies_in : ℕ → ℕ → Bool
+abbrev pub lies_in : ℕ → ℕ → Bool
 lies_in year day = year_of day == year
 
-abbrev count : ℕ → List ℕ → ℕ
+abbrev pub count : ℕ → List ℕ → ℕ
 count year days = count_by (lies_in year) days
 
-count_append : (year : ℕ) (xs ys : List ℕ) → count year (xs ++ ys) ≡ count year xs + count year ys
+pub count_append : (year : ℕ) (xs ys : List ℕ)
+    → count year (xs ++ ys) ≡ count year xs + count year ys
 count_append year xs ys = sum_by-append (λ d. cond (lies_in year d) 1 0) xs ys
 
-abbrev one_if : Bool → ℕ
+abbrev pub one_if : Bool → ℕ
 one_if b = cond b 1 0
 
 -- days of another year
@@ -61,7 +62,7 @@ fits_short : (year : ℕ) (days : List ℕ) → is_calendar year days ≡ true �
 fits_short year days fits = leb-true (length days) 60
     (and_parts (nat_le (length days) 60) (list_all (lies_in year) days && are_rising days) fits).0
 
-fits_year : (year : ℕ) (days : List ℕ) (d : ℕ) → is_calendar year days ≡ true → Has days d
+pub fits_year : (year : ℕ) (days : List ℕ) (d : ℕ) → is_calendar year days ≡ true → Has days d
     → year_of d ≡ year
 fits_year year days d fits has =
     eqb-true (year_of d) year (each_passes (lies_in year) days d
@@ -116,7 +117,8 @@ count_given year (c ∷ given) apart fits =
     sized year c given (c.year == year) refl (fits c (inl refl)) (λ g has. fits g (inr has)) apart.0
     (count_given year given apart.1 (λ g has. fits g (inr has)))
 
-given_append : (xs ys : List YearDays) → holidays_of (xs ++ ys) ≡ holidays_of xs ++ holidays_of ys
+pub given_append : (xs ys : List YearDays)
+    → holidays_of (xs ++ ys) ≡ holidays_of xs ++ holidays_of ys
 given_append [] ys = refl
 given_append (c ∷ xs) ys = ap (λ zs. c.days ++ zs) (given_append xs ys)
     ∙ sym (append_assoc c.days (holidays_of xs) (holidays_of ys))

@@ -12,6 +12,8 @@ pub mod Ordered
 pub mod Questions
 pub mod Repeats
 pub mod Few
+pub mod DaysOnce
+pub mod Since
 pub mod Counted
 pub mod Members
 pub mod Totals
@@ -49,4 +51,14 @@ pub mod Agendas
 pub mod AnswerSome
 pub mod Examples
 pub mod Deposit
+pub mod Found
+pub mod InOrder
+pub mod Passing
+pub mod Taken
+pub mod JournalDays
+pub mod JournalTotals
+pub mod JournalYears
+pub mod JournalEntries
+pub mod JournalAccount
+pub mod JournalMakes
 pub mod PaidInTime

@@ -45,7 +45,7 @@ numbered_next number xs ys x more passed =
 
 -- ---- of the entries of an account
 
-keyed : {X : Type 0} (key : ℕ) (xs ys : List (Entry X))
+pub keyed : {X : Type 0} (key : ℕ) (xs ys : List (Entry X))
     → all_at key (xs ++ ys) ≡ all_at key xs ++ all_at key ys
 keyed key xs ys =
     ap (map content_of) (filter-append (has_key key) xs ys)

@@ -1,7 +1,7 @@
 -- Each open year has its lookback total still: figures are added or put right, and none is taken
 -- back.
-use Rattle.std.proofs.Common.{◌≡◌, ◌∙◌, inl, inr, refl, sym, ap, subst, ℕ, ◌+◌, Bool, true, false}
-use Rattle.std.proofs.Common.{cond, List, [], ◌∷◌, ◌++◌, filter, bytes_eq}
+use Rattle.std.proofs.Common.{◌≡◌, inl, inr, refl, sym, ap, subst, ℕ, ◌+◌, Bool, true, false}
+use Rattle.std.proofs.Common.{cond, List, [], ◌∷◌, ◌++◌, filter}
 use Rattle.std.specs.Prelude.{is_some}
 use Rattle.ftd_days.specs.declared.cents.Cents.{Cents}
 use Rattle.ftd_rules.specs.declared.Form.{Form}
@@ -9,18 +9,17 @@ use Rattle.ftd_rules.specs.declared.Form.TheVariants.{F941, F943}
 use Rattle.ftd_rules.specs.Lists.{Has}
 use Rattle.ftd_rules.specs.Lookback.{Counts, IsLookback, lookback_first}
 use Rattle.ftd_rules.proofs.Owed.{has_left}
-use Rattle.ftd_rules.proofs.Members.{has_last, has_mapped, has_kept, mapped_has}
+use Rattle.ftd_rules.proofs.Members.{has_last, has_mapped, mapped_has}
 use Rattle.ftd_machine.specs.declared.entries.Account.{Account}
 use Rattle.ftd_machine.specs.declared.entries.Beginning.{Beginning}
-use Rattle.ftd_machine.specs.State.{State, Entries, Entry, entries_of, is_of, is_named, account_of}
-use Rattle.ftd_machine.specs.State.{latest, all_at, enrolled_in, moves_in, account_in_force}
+use Rattle.ftd_machine.specs.State.{State, Entries, Entry, entries_of, is_of}
+use Rattle.ftd_machine.specs.State.{latest, all_at}
 use Rattle.ftd_machine.specs.History.{start_of, form_of, figure_of, figures, quarter_figures}
 use Rattle.ftd_machine.specs.History.{year_figures, HasLookback, IsLookbackOn}
 use Rattle.ftd_machine.specs.Step.{with_account, with_entry, with_move}
 use Rattle.ftd_machine.specs.Sound.{HasTotals}
-use Rattle.ftd_machine.proofs.Adding.{filter_more, moved_other, own_name, was_enrolled}
-use Rattle.ftd_machine.proofs.Keeping.{found_append}
-use Rattle.ftd_machine.proofs.Members.{some_of}
+use Rattle.ftd_machine.proofs.Adding.{filter_more}
+use Rattle.ftd_machine.proofs.Since.{account_still, moved_still, not_of}
 
 -- the account stays, and what was reported stays so, whatever its figure is then
 pub record Grows (own after : Entries) : Type 0 where
@@ -30,7 +29,7 @@ pub record Grows (own after : Entries) : Type 0 where
   pub years : (y : ℕ) (c : Cents) → Has (year_figures own) (y, c)
       → (d : Cents) × Has (year_figures after) (y, d)
 
-figures_grow : (xs ys cs ds : List (Entry Cents)) → ((x : Entry Cents) → Has xs x → Has ys x)
+pub figures_grow : (xs ys cs ds : List (Entry Cents)) → ((x : Entry Cents) → Has xs x → Has ys x)
     → (q : ℕ) (c : Cents) → Has (figures xs cs) (q, c) → (d : Cents) × Has (figures ys ds) (q, d)
 figures_grow xs ys cs ds more q c h =
     let from = has_mapped (figure_of cs) xs (q, c) h in
@@ -158,13 +157,11 @@ pub totals_account : (s : State) (name : List ℕ) (account : Account)
     → HasTotals s → HasTotals (record s { accounts = with_account s.accounts name account })
 totals_account s name account enrolled totals =
     totals_grow s (record s { accounts = with_account s.accounts name account }) (λ other there.
-    (let known = some_of (enrolled_in s other)
-    (was_enrolled (enrolled_in s other) (moves_in s other) there) in record {
-      account = ap (λ o. account_in_force o (moves_in s other))
-          (found_append account_of (is_named other) s.accounts _ known.0 known.1 ∙ sym known.1);
+    record {
+      account = account_still s name account other there;
       quarters = figures_grow _ _ _ _ (λ x h. h);
       years = figures_grow _ _ _ _ (λ x h. h);
-    })) refl enrolled totals
+    }) refl enrolled totals
 
 -- an account without open years is put right
 pub totals_moved : (s : State) (name : List ℕ) (beginning : Beginning)
@@ -172,13 +169,7 @@ pub totals_moved : (s : State) (name : List ℕ) (beginning : Beginning)
     → HasTotals s → HasTotals (record s { moved = with_move s.moved name beginning })
 totals_moved s name beginning none totals e has =
     let total = totals e has in
-    let after : State = record s { moved = with_move s.moved name beginning } in
-    let apart : name ≡ e.name → ⊥ = λ same.
-    subst (λ (xs : List (Entry (Unit {0}))). Has xs e) none
-    (has_kept (is_of name) s.open_years e has
-    (ap (λ n. bytes_eq n name) (sym same) ∙ own_name name)) in
-    let stays : entries_of after e.name ≡ entries_of s e.name =
-    rw (moved_other s.moved name beginning e.name apart) refl in
+    let stays = moved_still s name beginning e.name (not_of name s.open_years e none has) in
     (total.0, subst (λ own. HasLookback own e.key total.0) (sym stays) total.1)
 
 has_more : {X : Type 0} (xs : List (Entry X)) (new : Entry X) (name : List ℕ) (x : Entry X)

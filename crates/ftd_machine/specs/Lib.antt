@@ -17,6 +17,7 @@ pub mod Step
 pub mod Runs
 pub mod Sound
 pub mod Laws
+pub mod Journal
 pub use Rattle.ftd_days.specs.Calendar
 pub use Rattle.ftd_rules.specs.Liability
 pub use Rattle.ftd_rules.specs.Verdicts

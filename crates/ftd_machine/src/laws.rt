@@ -2,7 +2,7 @@
 
 ghost use Rattle.std.specs.Prelude.{◌≡◌, ◌≤◌, ◌<◌, ◌↔◌, ℕ, ◌∷◌, ◌++◌, length, List, Some, Ok};
 ghost use Rattle.std.specs.Prelude.{true, false};
-ghost use Rattle.ftd_machine.specs.State.{State, entries_of, holidays};
+ghost use Rattle.ftd_machine.specs.State.{State, entries_of, holidays, nothing};
 ghost use Rattle.ftd_days.specs.Calendar.{quarter_of};
 ghost use Rattle.ftd_days.specs.declared.cents.Cents.{Cents};
 ghost use Rattle.ftd_rules.specs.declared.verdict.DueRow.{DueRow};
@@ -15,6 +15,7 @@ ghost use Rattle.ftd_machine.specs.Step.{Step};
 ghost use Rattle.ftd_machine.specs.Runs.{IsRun, IsReached};
 ghost use Rattle.ftd_machine.specs.Sound.{IsSound};
 ghost use Rattle.ftd_machine.specs.Laws.{is_change, IsBounded, Names, AgreeOn, IsRepeat};
+ghost use Rattle.ftd_machine.specs.Journal.{journal, AreChanges, SameEntries};
 ghost use Rattle.ftd_machine.specs.Agenda.{due_date_of, first_day_of, left_of, IsAgendaRow};
 ghost use Rattle.ftd_machine.specs.Agenda.{IsCutOf};
 ghost use Rattle.ftd_machine.specs.PaidInTime.{IsMissed, GoesOn, IsPaidInTime};
@@ -118,6 +119,16 @@ pub fn a_repeat_changes_nothing()
         → IsRepeat again
         × IsRun s (before ++ request ∷ between ++ after)
         (answers_before ++ answer ∷ answers_between ++ answers_after) end }
+{}
+
+/// A journal makes the same desk: from an empty desk on, each request of the journal of a sound
+/// state is answered Done or Posted, and at the end the desk has the same entries under the same
+/// keys.
+#[tactic(auto, using(crate::proofs::JournalMakes::journal_makes))]
+pub fn a_journal_makes_the_same_desk()
+    ensures { (s : State) → IsSound s
+        → (answers : List Answer) × (end : State) × IsRun nothing (journal s) answers end
+        × AreChanges answers × SameEntries s end }
 {}
 
 /// What is due over all accounts is all due lists, cut by due date: a row of an account that is
