@@ -4,6 +4,7 @@
 
 mod beginning;
 mod jobs;
+mod lines;
 mod progress;
 mod server;
 mod shell;
@@ -11,8 +12,8 @@ mod shell;
 use crate::jobs::{local, report_fault};
 use crate::server::serve_file;
 use crate::shell::shell;
-use ftd_cli::{PlainTask, Task, decide, with_file};
-use ftd_files::{ProgramFault, named_file, standard_input, words};
+use ftd_cli::{PlainTask, Task, decide_today, with_file};
+use ftd_files::{ProgramFault, SystemClock, named_file, standard_input, words};
 use ftd_ports::Port;
 use ftd_program::{print_plain, tell};
 use std::io;
@@ -37,7 +38,7 @@ fn given_words(rt: &HostRuntime) -> Result<Vec<String>, ProgramFault> {
 /// Does what the words ask, and gives the exit status.
 fn run(rt: &HostRuntime) -> Result<u8, ProgramFault> {
     let words = given_words(rt)?;
-    match decide(rt.alloc(), &words) {
+    match decide_today(rt.alloc(), &mut SystemClock::new(rt), &words) {
         Ok(task) => Ok(done(rt, task)),
         Err(fault) => {
             let mut out = Port::new(io::writer(rt));

@@ -1,13 +1,18 @@
 //! A shell over the desk of a file.
 
+ghost use Rattle.std.specs.Prelude.{ℕ, Option};
+
+use crate::beginning::Beginning;
 use crate::jobs::report_fault;
-use ftd_cli::{Piece, ShellTask, next_piece};
+use crate::lines::{Lines, read_ahead, unread};
+use ftd_cli::{DayClock, ShellTask};
+use ftd_days::Day;
 use ftd_desk::Desk;
 use ftd_files::{
-    ProgramFault, close_files, desk_of, import_input, is_new, open_with_short_log, tell_made,
-    unread_text,
+    ProgramFault, SystemClock, close_files, desk_of, import_input, is_new, open_with_short_log,
+    tell_made,
 };
-use ftd_ports::Port;
+use ftd_ports::{Port, write_all};
 use ftd_program::{Inputs, Script, Shell, Shows, Unread};
 use sqlite::FileStore;
 use sqlite_disk::Disk;
@@ -20,23 +25,24 @@ const STANDARD_INPUT: &str = "-";
 /// What is told of an import from standard input, where that has the script.
 const TAKEN: &[u8] = b"error: standard input has the script\n";
 
-/// What is told of something that can't be read. Nothing where there is no memory for it.
-fn unread(rt: &HostRuntime, fault: ProgramFault, input: &str) -> Unread {
-    Unread {
-        status: fault.status(),
-        said: unread_text(rt.alloc(), fault, input).unwrap_or(Vec::new(rt.alloc())),
-    }
-}
-
-/// The files that the imports of a script name.
+/// The files that the imports of a script name, and the clock of its lines.
 #[derive(Drop)]
-struct Files<'a> {
+struct Around<'a> {
     rt: &'a HostRuntime,
+    clock: SystemClock<'a>,
     /// Standard input has the script.
     is_taken: bool,
 }
 
-impl Inputs for Files<'_> {
+impl DayClock for Around<'_> {
+    ghost told = { λ around. around.clock.told };
+
+    fn today(&mut self) -> Option<Day> {
+        self.clock.today()
+    }
+}
+
+impl Inputs for Around<'_> {
     fn read(&mut self, file: &str) -> Result<Vec<u8>, Unread> {
         if self.is_taken && file == STANDARD_INPUT {
             let mut said = Vec::new(self.rt.alloc());
@@ -47,37 +53,13 @@ impl Inputs for Files<'_> {
     }
 }
 
-/// The lines of a script.
-#[derive(Drop)]
-struct Lines<'a, R> {
-    rt: &'a HostRuntime,
-    reader: R,
-    name: &'a str,
-    /// A prompt is written before each line is read.
-    has_prompt: bool,
-}
-
-impl<R: BufRead> Script for Lines<'_, R> {
-    ghost left = { λ lines. R.remaining lines.reader };
-
-    fn next(&mut self) -> Result<Piece, Unread> {
-        if self.has_prompt {
-            let _ = eprint!(self.rt; "ftd> ");
-        }
-        let rt = self.rt;
-        match next_piece(rt.alloc(), &mut self.reader) {
-            Ok(piece) => Ok(piece),
-            Err(error) => Err(unread(rt, error.into(), self.name)),
-        }
-    }
-}
-
 /// Answers the lines of the script with the desk of the tables in files, which are closed.
-fn over_files<D: Disk + Drop, R: BufRead + Drop>(
+fn over_files<D: Disk + Drop, L: Script + Drop>(
     rt: &HostRuntime,
     task: &ShellTask,
     desk: Desk<FileStore<D>>,
-    lines: Lines<'_, R>,
+    names_lines: bool,
+    script: L,
 ) -> Result<u8, ProgramFault> {
     let out = Port::new(LineWriter::new(rt.alloc(), io::writer(rt))?);
     let err = Port::new(rt.stderr());
@@ -85,18 +67,19 @@ fn over_files<D: Disk + Drop, R: BufRead + Drop>(
         alloc: rt.alloc(),
         db: String::from_str(rt.alloc(), &task.db)?,
         desk,
-        inputs: Files {
+        inputs: Around {
             rt,
+            clock: SystemClock::new(rt),
             is_taken: task.script.as_str() == STANDARD_INPUT,
         },
         shows: Shows {
             commands: task.has_echo,
-            lines: !lines.has_prompt,
+            lines: names_lines,
         },
     };
-    let mut lines = lines;
+    let mut script = script;
     let status = shell
-        .answer_script(&mut lines, task.has_stop, out, err)
+        .answer_script(&mut script, task.has_stop, out, err)
         .status;
     let Shell {
         desk,
@@ -109,19 +92,56 @@ fn over_files<D: Disk + Drop, R: BufRead + Drop>(
     Ok(status)
 }
 
+/// Opens the task's file, which is made if it is not there, and answers the lines of the script.
+fn over_file<L: Script + Drop>(
+    rt: &HostRuntime,
+    task: &ShellTask,
+    names_lines: bool,
+    script: L,
+) -> Result<u8, ProgramFault> {
+    let conn = open_with_short_log(rt, &task.db, task.wait)?;
+    over_files(rt, task, desk_of(rt, conn)?, names_lines, script)
+}
+
+/// Answers the lines of a script where the file is not there: the first that asks something says
+/// what becomes of it, as it does as a command of its own. `Missing` if it makes none.
+fn over_new_file<R: BufRead + Drop>(
+    rt: &HostRuntime,
+    task: &ShellTask,
+    names_lines: bool,
+    lines: Lines<'_, R>,
+) -> Result<u8, ProgramFault> {
+    let (beginning, script) = match read_ahead(&task.db, lines) {
+        Ok(Some(ahead)) => ahead,
+        Ok(None) => return Ok(0),
+        Err(unread) => {
+            // Where standard error fails, the status still tells.
+            let _ = write_all(&mut Port::new(rt.stderr()), &unread.said);
+            return Ok(unread.status);
+        }
+    };
+    if beginning == Beginning::Needs {
+        return Err(ProgramFault::Missing);
+    }
+    let status = over_file(rt, task, names_lines, script)?;
+    if beginning == Beginning::Tells {
+        tell_made(rt, &task.db);
+    }
+    Ok(status)
+}
+
 /// Answers the lines that the reader gives, with the desk of the task's file.
 fn over_lines<R: BufRead + Drop>(
     rt: &HostRuntime,
     task: &ShellTask,
     lines: Lines<'_, R>,
 ) -> Result<u8, ProgramFault> {
-    let is_new = is_new(rt, &task.db)?;
-    let conn = open_with_short_log(rt, &task.db, task.wait)?;
-    let status = over_files(rt, task, desk_of(rt, conn)?, lines)?;
-    if is_new {
-        tell_made(rt, &task.db);
+    let names_lines = !lines.has_prompt;
+    if is_new(rt, &task.db)? {
+        over_new_file(rt, task, names_lines, lines)
+    } else {
+        over_file(rt, task, names_lines, lines)
     }
-    Ok(status)
 }
 
 /// Answers the lines of standard input.
@@ -131,6 +151,7 @@ fn over_standard_input(rt: &HostRuntime, task: &ShellTask) -> Result<u8, Program
         reader: rt.reader(),
         name: "standard input",
         has_prompt: rt.stdin().is_terminal(),
+        has_failed: false,
     };
     over_lines(rt, task, lines)
 }
@@ -142,6 +163,7 @@ fn over_script(rt: &HostRuntime, task: &ShellTask, file: File) -> Result<u8, Pro
         reader: BufReader::new(rt.alloc(), file)?,
         name: &task.script,
         has_prompt: false,
+        has_failed: false,
     };
     over_lines(rt, task, lines)
 }

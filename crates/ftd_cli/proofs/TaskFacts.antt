@@ -1,5 +1,5 @@
 -- What a subcommand asks, and what is told where words ask nothing.
-use Rattle.std.proofs.Common.{◌≡◌, List, [], ◌∷◌, Option, Some, None, Result, Err, refl, sym, ap}
+use Rattle.std.proofs.Common.{◌≡◌, ℕ, List, [], ◌∷◌, Option, Some, None, Result, Err, refl, sym, ap}
 use Rattle.std.proofs.Common.{◌∙◌, option_map}
 use Rattle.std.specs.Box.{box_value}
 use Rattle.clap.specs.Words.{IsAmong, Kinds, Row, Text, fault_of, found_of, rows_of}
@@ -45,35 +45,37 @@ called m name rows r n = some_called (λ b. (out-SubCommand (box_value b)).name.
     (λ b. rows_of (found_of (out-SubCommand (box_value b)).matches)) (out-ArgMatches m).subcommand
     name rows r n
 
-pub none_wanted : (m : ArgMatches) → None ≡ subcommand_name_of m → wanted_in (subcommand_rows_of m)
-    ≡ Err values.NoCommand
+pub none_wanted : (today : Option ℕ) (m : ArgMatches) → None ≡ subcommand_name_of m
+    → wanted_in today (subcommand_rows_of m) ≡ Err values.NoCommand
 unfolding wanted_in
-none_wanted m n =
-    ap wanted_in (none_called (λ b. (out-SubCommand (box_value b)).name.now)
+none_wanted today m n =
+    ap (wanted_in today) (none_called (λ b. (out-SubCommand (box_value b)).name.now)
     (λ b. rows_of (found_of (out-SubCommand (box_value b)).matches)) (out-ArgMatches m).subcommand
     n)
 
-pub wanted_by : (m : ArgMatches) (text : Text) (rows : List Row) (o : Option Name)
-    → Some rows ≡ option_map (λ (p : Text × List Row). p.1) (subcommand_rows_of m)
-    → Some text ≡ subcommand_name_of m → o ≡ command_named text → wanted_in (subcommand_rows_of m)
-    ≡ wanted_as o rows
+pub wanted_by : (today : Option ℕ) (m : ArgMatches) (text : Text) (rows : List Row)
+    (o : Option Name) → Some rows ≡ option_map (λ (p : Text × List Row). p.1) (subcommand_rows_of m)
+    → Some text ≡ subcommand_name_of m → o ≡ command_named text
+    → wanted_in today (subcommand_rows_of m) ≡ wanted_as today o rows
 unfolding wanted_in
-wanted_by m text rows o r n e = ap wanted_in (called m text rows r n)
-    ∙ ap (λ named. wanted_as named rows) (sym e)
+wanted_by today m text rows o r n e = ap (wanted_in today) (called m text rows r n)
+    ∙ ap (λ named. wanted_as today named rows) (sym e)
 
 -- ---- words that parse
-pub parsed_task : (given : List Text) (o : Option (Text × List Row)) → fault_of ftd_app given ≡ []
-    → o ≡ subcommand_of ftd_app given → task_of given ≡ by_value (wanted_in o)
+pub parsed_task : (today : Option ℕ) (given : List Text) (o : Option (Text × List Row))
+    → fault_of ftd_app given ≡ [] → o ≡ subcommand_of ftd_app given
+    → task_of today given ≡ by_value (wanted_in today o)
 unfolding task_of
-parsed_task given o none e =
-    ap (λ kinds. without_fault kinds (wanted_in (subcommand_of ftd_app given))) none
-    ∙ ap (λ c. by_value (wanted_in c)) (sym e)
+parsed_task today given o none e =
+    ap (λ kinds. without_fault kinds (wanted_in today (subcommand_of ftd_app given))) none
+    ∙ ap (λ c. by_value (wanted_in today c)) (sym e)
 
 pub value_told : (f : WordFault) (r : CliFault) (said : Result Wanted WordFault)
     → TellsAs task_view (Err f) said → Fails r (Err (value f)) → Fails r (by_value said)
 value_told (values.BadWord word) r said e h = rw e h
 value_told values.NoCommand r said e h = rw e h
 value_told values.Memory (fault.BadArgument word text) said e h = cc h
+value_told values.Memory (fault.NoToday word) said e h = cc h
 value_told values.Memory (fault.Usage text) said e h = absurd h.0
 value_told values.Memory (fault.Help text) said e h = absurd h
 value_told values.Memory fault.Memory said e h = tt
@@ -84,17 +86,18 @@ refused_among : (kinds : Kinds) (k : ErrorKind) (r : CliFault) (said : Result Wa
 refused_among [] k r said among h = absurd among
 refused_among (first ∷ kinds) k r said among h = h
 
-pub refused_task : (given : List Text) (k : ErrorKind) (r : CliFault)
+pub refused_task : (today : Option ℕ) (given : List Text) (k : ErrorKind) (r : CliFault)
     → IsAmong k (fault_of ftd_app given) → Fails r (Err (words (fault_of ftd_app given)))
-    → Fails r (task_of given)
+    → Fails r (task_of today given)
 unfolding task_of
-refused_task given k r among h = refused_among (fault_of ftd_app given) k r
-    (wanted_in (subcommand_of ftd_app given)) among h
+refused_task today given k r among h = refused_among (fault_of ftd_app given) k r
+    (wanted_in today (subcommand_of ftd_app given)) among h
 
 -- ---- what shows no value
 pub usage_shows : (rows : List Row) (r : CliFault)
     → ((said : Result Wanted Refused) → IsUsage said → Fails r said) → ShowsValue rows r
 usage_shows rows (fault.BadArgument word text) h = cc (h (Err (value values.NoCommand)) tt)
+usage_shows rows (fault.NoToday word) h = cc (h (Err (value values.NoCommand)) tt)
 usage_shows rows (fault.Usage text) h = tt
 usage_shows rows (fault.Help text) h = tt
 usage_shows rows fault.Memory h = tt
@@ -102,6 +105,7 @@ usage_shows rows fault.Memory h = tt
 pub refused_shows : (rows : List Row) (r : CliFault) (kinds : Kinds)
     → Fails r (Err (words kinds)) → ShowsValue rows r
 refused_shows rows (fault.BadArgument word text) kinds h = cc h
+refused_shows rows (fault.NoToday word) kinds h = cc h
 refused_shows rows (fault.Usage text) kinds h = tt
 refused_shows rows (fault.Help text) kinds h = tt
 refused_shows rows fault.Memory kinds h = tt

@@ -1,5 +1,5 @@
 -- What the values of a subcommand ask.
-use Rattle.std.specs.Prelude.{ℕ, ◌≡◌, ◌||◌, ◌&&◌, nat_lt, Bool, List, Result, Ok, Err, ⊤}
+use Rattle.std.specs.Prelude.{ℕ, ◌≡◌, ◌||◌, ◌&&◌, nat_lt, Bool, List, Option, Result, Ok, Err, ⊤}
 use Rattle.std.specs.Prelude.{if◌then◌else◌}
 use Rattle.std.specs.Option.{is_none}
 use Rattle.clap.specs.Words.{Row, Text}
@@ -116,10 +116,11 @@ asked_by verb rows request =
     if has_no_number verb rows then asked_next rows request
     else then_with (format_in (row_of verb).formats rows) (λ format. asked_as rows format request)
 
--- what the subcommand asks with these values
-unfoldable pub wanted_of : Name → List Row → Result Wanted WordFault
-wanted_of name.Plain rows = plain_of rows
-wanted_of name.Serve rows = serve_of rows
-wanted_of name.Shell rows = shell_of rows
-wanted_of (name.Import sheet) rows = import_of sheet rows
-wanted_of (name.Verb verb) rows = then_with (request_of verb rows) (asked_by verb rows)
+-- what the subcommand asks with these values on this day
+unfoldable pub wanted_of : Option ℕ → Name → List Row → Result Wanted WordFault
+wanted_of today name.Plain rows = plain_of rows
+wanted_of today name.Serve rows = serve_of rows
+wanted_of today name.Shell rows = shell_of rows
+wanted_of today (name.Import sheet) rows = import_of sheet rows
+wanted_of today (name.Verb verb) rows =
+    then_with (request_of today verb rows) (asked_by verb rows)

@@ -6,6 +6,7 @@ pub mod Words
 pub mod Asking
 pub mod Escapes
 pub mod Tasks
+pub mod Clocks
 pub mod Lines
 pub mod Files
 pub use Rattle.ftd_days.specs.Spelling

@@ -84,6 +84,7 @@ field_text field.Number = codes "number"
 field_text field.IsHoliday = codes "HOLIDAY"
 field_text field.Day = codes "DAY"
 field_text field.AsOf = codes "ASOF"
+field_text field.AsOfToday = codes "ASOF"
 field_text field.From = codes "FROM"
 field_text field.To = codes "TO"
 field_text field.Until = codes "UNTIL"
@@ -130,12 +131,22 @@ kind_takes kind.NumberOrNext = takes.OptionalNumber (pos 0) LARGEST_NUMBER
 kind_takes kind.Year = takes.Number (pos 0) LARGEST_NUMBER
 kind_takes kind.Day = takes.Text
 kind_takes kind.DayOrOther = takes.Optional
+kind_takes kind.DayOrToday = takes.Optional
 kind_takes kind.Days = takes.Texts
 kind_takes kind.Quarter = takes.Text
 kind_takes kind.Amount = takes.Text
 kind_takes kind.Mark = takes.Nothing
 kind_takes kind.Answer = takes.Text
 kind_takes kind.Form = takes.Form
+
+-- a day that is today where it is left out
+abbrev pub is_day_or_today : Kind → Bool
+is_day_or_today kind.DayOrToday = true
+is_day_or_today other = false
+
+abbrev pub may_be_today : Word → Bool
+may_be_today (word.Field at) = is_day_or_today (kind_of at)
+may_be_today other = false
 
 -- what a word takes
 abbrev pub takes_of : Word → Takes

@@ -1,10 +1,11 @@
 -- What the words of a command line ask.
 use Rattle.std.specs.Prelude.{◌≡◌, ◌⊎◌, ℕ, List, [], ◌∷◌, Option, Some, None, Result, Ok, Err, ⊤}
-use Rattle.std.specs.Prelude.{Bool, true, false, IfSome, IsTrue}
+use Rattle.std.specs.Prelude.{◌&&◌, Bool, true, false, IfSome, IsTrue}
 use Rattle.std.specs.List.{find}
 use Rattle.std.specs.Str.{bytes_eq}
 use Rattle.std.specs.String.{string_bytes}
-use Rattle.clap.specs.Words.{IsAmong, Kinds, Row, Text, fault_of, subcommand_of}
+use Rattle.std.specs.Option.{is_none}
+use Rattle.clap.specs.Words.{IsAmong, Kinds, Row, Text, fault_of, first_of, subcommand_of}
 use Rattle.clap.specs.declared.error.ErrorKind.{ErrorKind}
 use Rattle.clap.specs.declared.error.ErrorKind.TheVariants as kind
 use Rattle.ftd_verbs.specs.declared.field.Field.TheVariants as field
@@ -12,7 +13,7 @@ use Rattle.ftd_cli.specs.Apps.{ftd_app}
 use Rattle.ftd_cli.specs.Asking.{Wanted, ask, ask_next, import, plain, serve, shell, then_with}
 use Rattle.ftd_cli.specs.Asking.{wanted_of}
 use Rattle.ftd_cli.specs.Escapes.{escaped, escaped_word}
-use Rattle.ftd_cli.specs.Table.{all_names, name_text}
+use Rattle.ftd_cli.specs.Table.{all_names, may_be_today, name_text, word_text}
 use Rattle.ftd_cli.specs.Values.{bad_value, text_in, whole_in}
 use Rattle.ftd_cli.specs.declared.fault.WordFault.{WordFault}
 use Rattle.ftd_cli.specs.declared.fault.WordFault.TheVariants as values
@@ -30,14 +31,20 @@ use Rattle.ftd_cli.specs.declared.tasks.Task.TheVariants as task
 unfoldable pub command_named : Text → Option Name
 command_named text = find (λ name. bytes_eq (name_text name) text) all_names
 
--- what the subcommand of this name asks with these values
-abbrev pub wanted_as : Option Name → List Row → Result Wanted WordFault
-wanted_as None rows = Err values.NoCommand
-wanted_as (Some name) rows = wanted_of name rows
+-- the subcommand that words name, of which the first is the program's name
+abbrev pub named_command : List Text → Option Name
+named_command [] = None
+named_command (first ∷ []) = None
+named_command (first ∷ text ∷ rest) = command_named text
 
-unfoldable pub wanted_in : Option (Text × List Row) → Result Wanted WordFault
-wanted_in None = Err values.NoCommand
-wanted_in (Some called) = wanted_as (command_named called.0) called.1
+-- what the subcommand of this name asks with these values on this day
+abbrev pub wanted_as : Option ℕ → Option Name → List Row → Result Wanted WordFault
+wanted_as today None rows = Err values.NoCommand
+wanted_as today (Some name) rows = wanted_of today name rows
+
+unfoldable pub wanted_in : Option ℕ → Option (Text × List Row) → Result Wanted WordFault
+wanted_in today None = Err values.NoCommand
+wanted_in today (Some called) = wanted_as today (command_named called.0) called.1
 
 -- why words ask nothing: `clap` finds these faults in them, or their values ask nothing
 pub data Refused : Type 0 where
@@ -52,10 +59,11 @@ abbrev pub without_fault : Kinds → Result Wanted WordFault → Result Wanted R
 without_fault [] said = by_value said
 without_fault (k ∷ kinds) said = Err (words (k ∷ kinds))
 
--- what the words ask, of which the first is the program's name. They go to the arguments as `clap`
--- assigns those of the command line of the table.
-unfoldable pub task_of : List Text → Result Wanted Refused
-task_of given = without_fault (fault_of ftd_app given) (wanted_in (subcommand_of ftd_app given))
+-- what the words ask, of which the first is the program's name, where this day is today, if that is
+-- known. They go to the arguments as `clap` assigns those of the command line of the table.
+unfoldable pub task_of : Option ℕ → List Text → Result Wanted Refused
+task_of today given =
+    without_fault (fault_of ftd_app given) (wanted_in today (subcommand_of ftd_app given))
 
 -- what a task stands for
 abbrev pub job_view : Text → ℕ → Job → Wanted
@@ -112,6 +120,7 @@ IsEscaped text = (whole : Text) × (text ≡ escaped whole)
 -- point
 abbrev pub Fails : CliFault → Result Wanted Refused → Type 0
 Fails (fault.BadArgument word text) said = said ≡ Err (value (values.BadWord word))
+Fails (fault.NoToday word) said = said ≡ Err (value (values.BadWord word))
 Fails (fault.Usage text) said = IsUsage said × IsEscaped (string_bytes text)
 Fails (fault.Help text) said = IsHelp said
 Fails fault.Memory said = ⊤
@@ -125,9 +134,14 @@ abbrev pub rows_in : Option (Text × List Row) → List Row
 rows_in None = []
 rows_in (Some called) = called.1
 
+-- the word is left out, and is today then
+abbrev pub lacks_today : Word → List Row → Bool
+lacks_today word rows = may_be_today word && is_none (first_of (word_text word) rows)
+
 -- a word whose value is none of its kind is told with that value, its control bytes escaped, where
--- there is memory for it
+-- there is memory for it; or it is left out, and today is not known
 abbrev pub ShowsValue : List Row → CliFault → Type 0
 ShowsValue rows (fault.BadArgument word shown) =
     IfSome shown (λ text. string_bytes text ≡ escaped_word (bad_value word rows))
+ShowsValue rows (fault.NoToday word) = lacks_today word rows ≡ true
 ShowsValue rows _ = ⊤

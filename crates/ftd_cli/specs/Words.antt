@@ -15,7 +15,7 @@ use Rattle.ftd_verbs.specs.declared.field.Field.{Field}
 use Rattle.ftd_verbs.specs.declared.field.FieldFault.{FieldFault}
 use Rattle.ftd_verbs.specs.declared.field.FieldFault.TheVariants as field_fault
 use Rattle.ftd_verbs.specs.declared.rows.Verb.{Verb}
-use Rattle.ftd_cli.specs.Table.{field_text}
+use Rattle.ftd_cli.specs.Table.{field_text, may_be_today}
 use Rattle.ftd_cli.specs.Values.{is_given, texts_in}
 use Rattle.ftd_cli.specs.declared.fault.WordFault.{WordFault}
 use Rattle.ftd_cli.specs.declared.fault.WordFault.TheVariants as fault
@@ -46,13 +46,19 @@ value_of rows at = first_of (field_text at) rows
 abbrev pub spelled : {X : Type 0} → (Text → Option X) → List Row → Field → Option X
 spelled value rows at = option_and_then value (value_of rows at)
 
--- what the words say: a word for each field; a mark that is not there says no
-abbrev pub words_said : List Row → Said
-words_said rows = record {
+-- the day that a word says, or today, where it is a day that may be left out and is
+abbrev pub day_said : Option ℕ → Bool → Option Text → Option ℕ
+day_said today or_today (Some text) = day_of text
+day_said today true None = today
+day_said today false None = None
+
+-- what the words say on this day: a word for each field; a mark that is not there says no
+abbrev pub words_said : Option ℕ → List Row → Said
+words_said today rows = record {
   is_left_out = λ at. is_none (value_of rows at);
   text = λ at. value_of rows at;
   whole = λ at. spelled whole_number rows at;
-  day = λ at. spelled day_of rows at;
+  day = λ at. day_said today (may_be_today (word.Field at)) (value_of rows at);
   quarter = λ at. spelled spelled_quarter rows at;
   amount = λ at. spelled amount_of rows at;
   mark = λ at. Some (is_given (word.Field at) rows);
@@ -70,6 +76,6 @@ abbrev pub told : {X : Type 0} → Result X Field → Result X WordFault
 told (Ok value) = Ok value
 told (Err at) = Err (fault.BadWord (word.Field at))
 
--- what a verb asks by these words
-abbrev pub request_of : Verb → List Row → Result Request WordFault
-request_of verb rows = told (asked verb (words_said rows))
+-- what a verb asks by these words on this day
+abbrev pub request_of : Option ℕ → Verb → List Row → Result Request WordFault
+request_of today verb rows = told (asked verb (words_said today rows))

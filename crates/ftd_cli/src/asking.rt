@@ -15,7 +15,7 @@ use crate::words::Words;
 use crate::{Name, Word};
 use clap::ArgMatches;
 use ftd_csv::Sheet;
-use ftd_days::{FIRST_YEAR, LAST_OPEN_YEAR};
+use ftd_days::{Day, FIRST_YEAR, LAST_OPEN_YEAR};
 use ftd_machine::{AccountName, Request};
 use ftd_rules::is_account_name;
 use ftd_verbs::{Field, Verb, read_request};
@@ -130,11 +130,20 @@ fn in_database(alloc: Global, inner: &ArgMatches<'_>, job: Job) -> Result<Task, 
     Ok(Task::Local(LocalTask { db, wait, job }))
 }
 
-/// What a verb asks by these words.
-fn request(alloc: Global, verb: Verb, inner: &ArgMatches<'_>) -> Result<Request, WordFault>
-    ensures { Tells result (request_of verb (rows_of (found_of inner.now))) }
+/// What a verb asks by these words on this day.
+fn request(
+    alloc: Global,
+    today: Option<Day>,
+    verb: Verb,
+    inner: &ArgMatches<'_>,
+) -> Result<Request, WordFault>
+    ensures { Tells result (request_of today verb (rows_of (found_of inner.now))) }
 {
-    Ok(read_request(alloc, verb, &Words { matches: inner })?)
+    let words = Words {
+        matches: inner,
+        today,
+    };
+    Ok(read_request(alloc, verb, &words)?)
 }
 
 /// The request, to the desk in the database: a correction with no number under the next one, any
@@ -155,16 +164,21 @@ fn asked(
     in_database(alloc, inner, Job::Ask { format, request })
 }
 
-/// What the subcommand asks.
+/// What the subcommand asks on this day.
 #[tactic(auto, unfolding(crate::specs::Asking::wanted_of))]
-pub fn task_for(alloc: Global, name: Name, inner: &ArgMatches<'_>) -> Result<Task, WordFault>
-    ensures { TellsAs task_view result (wanted_of name (rows_of (found_of inner.now))) }
+pub fn task_for(
+    alloc: Global,
+    today: Option<Day>,
+    name: Name,
+    inner: &ArgMatches<'_>,
+) -> Result<Task, WordFault>
+    ensures { TellsAs task_view result (wanted_of today name (rows_of (found_of inner.now))) }
 {
     match name {
         Name::Plain => plain(alloc, inner),
         Name::Serve => serve(alloc, inner),
         Name::Shell => shell(alloc, inner),
         Name::Import(sheet) => import(alloc, sheet, inner),
-        Name::Verb(verb) => asked(alloc, verb, inner, request(alloc, verb, inner)?),
+        Name::Verb(verb) => asked(alloc, verb, inner, request(alloc, today, verb, inner)?),
     }
 }

@@ -8,17 +8,20 @@ ghost use Rattle.ftd_cli.specs.Apps.{ftd_app};
 ghost use Rattle.ftd_cli.specs.Values.{bad_value};
 ghost use Rattle.ftd_cli.specs.Asking.{TellsAs, Wanted};
 ghost use Rattle.ftd_cli.specs.Tasks.{Fails, Gives, IsUsage, Refused, ShowsValue, command_named};
-ghost use Rattle.ftd_cli.specs.Tasks.{rows_in, task_of, task_view, value, wanted_in, words};
+ghost use Rattle.ftd_cli.specs.Tasks.{named_command};
+ghost use Rattle.ftd_cli.specs.Tasks.{lacks_today, rows_in, task_of, task_view, value, wanted_in};
+ghost use Rattle.ftd_cli.specs.Tasks.{words};
 
 use crate::asking::task_for;
 use crate::escape::{escape_text, escape_word};
 use crate::fault::WordFault;
 use crate::parse::{ParseFault, parse};
-use crate::reading::bad_value;
+use crate::reading::{bad_value, text_at};
 use crate::tasks::{CliFault, Task};
 use crate::{NAMES, Name, Word};
 use clap::error::ErrorKind;
 use clap::{ArgMatches, Error};
+use ftd_days::Day;
 use ftd_verbs::Field;
 use std::alloc::Global;
 
@@ -48,9 +51,19 @@ pub(crate) fn command_named(text: &str) -> Option<Name>
     NAMES.iter().copied().find(|name| name.text() == text)
 }
 
-/// What the subcommand of the words asks.
-fn task_in(alloc: Global, matches: &ArgMatches<'_>) -> Result<Task, WordFault>
-    ensures { TellsAs task_view result (wanted_in (subcommand_rows_of matches.now)) }
+/// The subcommand that words name, of which the first is the program's name.
+pub(crate) fn named_command(words: &[String]) -> Option<Name>
+    ensures { result ≡ named_command (map string_bytes words.now) }
+{
+    match words {
+        [_, text, ..] => command_named(text),
+        _ => None,
+    }
+}
+
+/// What the subcommand of the words asks on this day.
+fn task_in(alloc: Global, today: Option<Day>, matches: &ArgMatches<'_>) -> Result<Task, WordFault>
+    ensures { TellsAs task_view result (wanted_in today (subcommand_rows_of matches.now)) }
 {
     let Some((text, inner)) = matches.subcommand() else {
         return Err(WordFault::NoCommand);
@@ -58,7 +71,7 @@ fn task_in(alloc: Global, matches: &ArgMatches<'_>) -> Result<Task, WordFault>
     let Some(name) = command_named(text) else {
         return Err(WordFault::NoCommand);
     };
-    task_for(alloc, name, inner)
+    task_for(alloc, today, name, inner)
 }
 
 /// Whether a word has a hyphen before a digit, as a negative amount has.
@@ -80,11 +93,8 @@ fn signs_said(given: &[String]) -> &'static str {
 
 /// How the subcommand that the words name is used. The empty text where they name none.
 fn example_for(given: &[String]) -> &'static str {
-    match given.get(1) {
-        Some(text) => match command_named(text) {
-            Some(name) => name.example(),
-            None => "",
-        },
+    match named_command(given) {
+        Some(name) => name.example(),
         None => "",
     }
 }
@@ -123,6 +133,7 @@ fn told_fault(alloc: Global, matches: &ArgMatches<'_>, fault: WordFault) -> CliF
 {
     match fault {
         WordFault::BadWord(Word::Field(Field::Form)) => usage(alloc, NO_FORM),
+        WordFault::BadWord(word) if lacks_today(matches, word) => CliFault::NoToday(word),
         WordFault::BadWord(word) => bad_argument(alloc, matches, word),
         WordFault::Memory => CliFault::Memory,
         WordFault::NoCommand => usage(alloc, NO_COMMAND),
@@ -136,6 +147,19 @@ fn value_in<'a>(matches: &ArgMatches<'a>, word: Word) -> &'a str
     match matches.subcommand() {
         Some((_, inner)) => bad_value(inner, word),
         None => "",
+    }
+}
+
+/// Whether the word is left out, and is today then.
+fn lacks_today(matches: &ArgMatches<'_>, word: Word) -> bool
+    ensures { result ≡ lacks_today word (rows_in (subcommand_rows_of matches.now)) }
+{
+    if !word.may_be_today() {
+        return false;
+    }
+    match matches.subcommand() {
+        Some((_, inner)) => text_at(inner, word).is_none(),
+        None => true,
     }
 }
 
@@ -160,16 +184,17 @@ fn usage(alloc: Global, text: &str) -> CliFault
     }
 }
 
-/// What the words ask, of which the first is the program's name. `BadArgument` names the first word
-/// whose value is none of its kind, and has that value where there is memory for it; `Usage` and
+/// What the words ask on this day, of which the first is the program's name. `BadArgument` names
+/// the first word whose value is none of its kind, and has that value where there is memory for it;
+/// `NoToday` names the first that is left out and today, where the day is not known; `Usage` and
 /// `Help` have the text that is printed.
-pub fn decide(alloc: Global, words: &[String]) -> Result<Task, CliFault>
-    ensures asked { Gives result (task_of (map string_bytes words.now)) }
+pub fn decide(alloc: Global, today: Option<Day>, words: &[String]) -> Result<Task, CliFault>
+    ensures asked { Gives result (task_of today (map string_bytes words.now)) }
     ensures value { IfErr result
         (ShowsValue (rows_in (subcommand_of ftd_app (map string_bytes words.now)))) }
 {
     match parse(alloc, words) {
-        Ok(matches) => match task_in(alloc, &matches) {
+        Ok(matches) => match task_in(alloc, today, &matches) {
             Ok(task) => Ok(task),
             Err(fault) => Err(told_fault(alloc, &matches, fault)),
         },

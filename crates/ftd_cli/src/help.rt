@@ -203,8 +203,10 @@ fn field_help<'a>(field: Field) -> &'a str {
         Field::For => "A day of the period that it is paid for, YYYY-MM-DD",
         Field::Day => "The day, YYYY-MM-DD",
         Field::AsOf => "Deposits paid up to this day count, YYYY-MM-DD",
-        Field::From => "The first due date, YYYY-MM-DD",
-        Field::To => "The last due date, YYYY-MM-DD",
+        Field::AsOfToday =>
+            "Deposits paid up to this day count, YYYY-MM-DD; today if it is left out",
+        Field::From => "The first due date, YYYY-MM-DD; today if it is left out",
+        Field::To => "The last due date, YYYY-MM-DD; 30 days after FROM if it is left out",
         Field::Until => "The last due date, YYYY-MM-DD; a week after ASOF if it is left out",
         Field::LastDay => "The last day, YYYY-MM-DD; 2099-12-31 if it is left out",
         Field::Number => "The number of the correction; the next one if it is left out",

@@ -3,6 +3,7 @@
 #![tactic(auto)]
 
 mod asking;
+mod clock;
 mod command;
 mod deciding;
 mod escape;
@@ -16,6 +17,7 @@ mod table;
 mod tasks;
 mod words;
 
+pub use crate::clock::{DayClock, decide_today};
 pub use crate::deciding::decide;
 pub use crate::escape::{escape_text, escape_word};
 pub use crate::file::with_file;

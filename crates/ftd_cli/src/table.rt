@@ -3,6 +3,7 @@
 ghost use Rattle.std.specs.Prelude.{◌≡◌};
 ghost use Rattle.ftd_verbs.specs.Rows.{row_of};
 ghost use Rattle.ftd_cli.specs.Table.{field_text, fields_in, is_kind_option, is_option, kind_takes};
+ghost use Rattle.ftd_cli.specs.Table.{is_day_or_today, may_be_today};
 ghost use Rattle.ftd_cli.specs.Table.{name_text, sheet_text, takes_file, takes_many, takes_of};
 ghost use Rattle.ftd_cli.specs.Table.{word_text, words_of, words_with};
 
@@ -195,7 +196,7 @@ fn field_text<'a>(field: Field) -> &'a str
         Field::Payment => "PAYMENT",
         Field::Paid => "PAID",
         Field::For => "FOR",
-        Field::AsOf => "ASOF",
+        Field::AsOf | Field::AsOfToday => "ASOF",
         Field::From => "FROM",
         Field::To => "TO",
         Field::Number => "number",
@@ -220,11 +221,18 @@ fn kind_takes(kind: Kind) -> Takes
         Kind::Account | Kind::Day | Kind::Quarter | Kind::Amount | Kind::Answer => Takes::Text,
         Kind::Number | Kind::Year => Takes::Number(0, LARGEST_NUMBER),
         Kind::NumberOrNext => Takes::OptionalNumber(0, LARGEST_NUMBER),
-        Kind::DayOrOther => Takes::Optional,
+        Kind::DayOrOther | Kind::DayOrToday => Takes::Optional,
         Kind::Days => Takes::Texts,
         Kind::Mark => Takes::Nothing,
         Kind::Form => Takes::Form,
     }
+}
+
+/// Whether a field of this kind is today where it is left out.
+fn is_day_or_today(kind: Kind) -> bool
+    ensures { result ≡ is_day_or_today kind }
+{
+    matches!(kind, Kind::DayOrToday)
 }
 
 impl Word {
@@ -279,6 +287,16 @@ impl Word {
             Word::Holidays => Takes::Texts,
             Word::Format(_) => Takes::Format,
             Word::Field(field) => kind_takes(field.kind()),
+        }
+    }
+
+    /// Whether it is a day that is today where it is left out.
+    pub fn may_be_today(self) -> bool
+        ensures { result ≡ may_be_today self }
+    {
+        match self {
+            Word::Field(field) => is_day_or_today(field.kind()),
+            _ => false,
         }
     }
 

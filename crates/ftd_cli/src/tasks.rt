@@ -103,6 +103,8 @@ pub enum CliFault {
     /// The first word whose value is none of its kind, and that value, its control bytes escaped.
     /// None where there was no memory for it.
     BadArgument { word: Word, value: Option<String> },
+    /// The first word without a value, where that is today, which is not known.
+    NoToday(Word),
     /// They are no command line: this text tells why.
     Usage(String),
     /// They ask for help, or for the version: this text.

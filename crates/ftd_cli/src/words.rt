@@ -19,6 +19,8 @@ use std::alloc::{AllocError, Global};
 pub struct Words<'m, 'a> {
     /// The arguments with their values.
     pub matches: &'m ArgMatches<'a>,
+    /// The day of today, where it is known.
+    pub today: Option<Day>,
 }
 
 /// Yes or no.
@@ -44,7 +46,7 @@ fn form_named(text: &str) -> Option<Form>
 }
 
 impl Fields for Words<'_, '_> {
-    ghost said = { λ words. words_said (rows_of (found_of words.matches.now)) };
+    ghost said = { λ words. words_said words.today (rows_of (found_of words.matches.now)) };
 
     fn is_left_out(&self, field: Field) -> bool {
         text_at(self.matches, Word::Field(field)).is_none()
@@ -62,7 +64,12 @@ impl Fields for Words<'_, '_> {
     }
 
     fn day(&self, field: Field) -> Option<Day> {
-        Day::read(text_at(self.matches, Word::Field(field))?.as_bytes())
+        let word = Word::Field(field);
+        match text_at(self.matches, word) {
+            Some(text) => Day::read(text.as_bytes()),
+            None if word.may_be_today() => self.today,
+            None => None,
+        }
     }
 
     fn quarter(&self, field: Field) -> Option<Quarter> {

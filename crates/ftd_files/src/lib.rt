@@ -2,6 +2,7 @@
 //! faults of both.
 #![tactic(auto)]
 
+mod clock;
 mod faults;
 mod files;
 mod folder;
@@ -9,6 +10,7 @@ mod hints;
 mod input;
 mod opening;
 
+pub use crate::clock::SystemClock;
 pub use crate::faults::ProgramFault;
 pub use crate::files::{close_files, desk_of, is_new};
 pub use crate::hints::{tell_fault, tell_made, unread_text};

@@ -12,7 +12,7 @@ use Rattle.ftd_ports.specs.declared.port.Port.{Port}
 use Rattle.ftd_desk.specs.declared.desk.Desk.{Desk}
 use Rattle.ftd_cli.specs.Lines.{IsNext, are_texts, asks_nothing, command_words, line_of}
 use Rattle.ftd_cli.specs.Lines.{shown_words}
-use Rattle.ftd_cli.specs.Tasks.{Gives, task_of}
+use Rattle.ftd_cli.specs.Clocks.{DecidesOn}
 use Rattle.ftd_cli.specs.declared.lines.Piece.{Piece}
 use Rattle.ftd_cli.specs.declared.lines.Piece.TheVariants as piece
 use Rattle.ftd_cli.specs.declared.tasks.CliFault.{CliFault}
@@ -124,11 +124,13 @@ module _ {S O E : Type 0} (g : store.Ghosts S) (o_taken : O → Option (List ℕ
   DoesIfAny old new db (Some asked) = DoesJob old new db asked
   DoesIfAny old new db None = (new ≡ old) × TellsLine e_taken e_failed out err p 2 not_here
 
-  -- what the words of a command ask was done and told, as by the command itself
+  -- what the words of a command ask was done and told, as by the command itself, on the day that
+  -- the clock told
   pub record AnswersCommand (old new : Desk S) (db : List ℕ) (words : List (List ℕ)) : Type 0
     where
       pub decided : Result Task CliFault
-      pub gives : Gives decided (task_of words)
+      pub today : Option ℕ
+      pub gives : DecidesOn today words decided
       pub does : MatchResult decided (λ given. DoesIfAny old new db (job_of given))
           (λ f. (new ≡ old)
           × Tells o_taken o_failed e_taken e_failed out p.out err p.err f p.status)
@@ -221,15 +223,17 @@ most_lines = 18_446_744_073_709_551_614
 
 module _ {O E : Type 0} (e_taken : E → Option (List ℕ)) (e_failed : E → Bool) where
   -- why no more lines were answered after these: the script has no more; or the last of them was to
-  -- be the last; or the script could not be read further; or so many were answered
-  pub data HasEnded (bytes : Option (List ℕ)) (has_stop : Bool) (lines : List Piece)
+  -- be the last; or the script's source has failed; or so many were answered
+  pub data HasEnded (bytes : Option (List ℕ)) (failed has_stop : Bool) (lines : List Piece)
       (end p : JobEnd O E) : Type 0 where
     whole : p ≡ end → IfSome bytes (λ all. BeginsWith all lines [])
-        → HasEnded bytes has_stop lines end p
-    last : p ≡ end → is_last has_stop end.status ≡ true → HasEnded bytes has_stop lines end p
-    broken : (status : ℕ) (said : List ℕ) → EndsUnread e_taken e_failed end p status said
-        → HasEnded bytes has_stop lines end p
-    full : p ≡ end → most_lines ≤ length lines → HasEnded bytes has_stop lines end p
+        → HasEnded bytes failed has_stop lines end p
+    last : p ≡ end → is_last has_stop end.status ≡ true
+        → HasEnded bytes failed has_stop lines end p
+    broken : (status : ℕ) (said : List ℕ) → failed ≡ true
+        → EndsUnread e_taken e_failed end p status said
+        → HasEnded bytes failed has_stop lines end p
+    full : p ≡ end → most_lines ≤ length lines → HasEnded bytes failed has_stop lines end p
 
 module _ {S O E : Type 0} (g : store.Ghosts S) (o_taken : O → Option (List ℕ)) (o_failed : O → Bool)
     (e_taken : E → Option (List ℕ)) (e_failed : E → Bool)
@@ -237,10 +241,10 @@ module _ {S O E : Type 0} (g : store.Ghosts S) (o_taken : O → Option (List ℕ
   -- lines of a script were answered one after the other, as many as the script has, or up to the
   -- last; where its bytes are known, they are those with which it begins
   pub record AnswersScript (old new : Desk S) (ways : Ways) (bytes : Option (List ℕ))
-      (has_stop : Bool) : Type 0 where
+      (failed has_stop : Bool) : Type 0 where
     pub lines : List Piece
     pub end : JobEnd O E
     pub answers : AnswersLines g o_taken o_failed e_taken e_failed has_stop
         (record { status = 0; out = out; err = err }) end old new ways lines
     pub begins : IfSome bytes (λ all. (left : List ℕ) × BeginsWith all lines left)
-    pub ends : HasEnded e_taken e_failed bytes has_stop lines end p
+    pub ends : HasEnded e_taken e_failed bytes failed has_stop lines end p

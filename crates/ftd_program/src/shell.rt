@@ -1,6 +1,6 @@
 //! A shell: the lines of a script, each answered as its command is.
 
-ghost use Rattle.std.specs.Prelude.{◌≡◌, ℕ, List, Option, IfOk, OnErr, map, true};
+ghost use Rattle.std.specs.Prelude.{◌≡◌, ℕ, Bool, List, Option, IfOk, OnErr, map, true};
 ghost use Rattle.std.specs.String.{string_bytes};
 ghost use Rattle.ftd_cli.specs.Lines.{NextOf};
 ghost use Rattle.ftd_ports.specs.Writing.{Writes};
@@ -13,7 +13,9 @@ ghost use Rattle.ftd_program.specs.Shells.{ways_of};
 
 use crate::performing::{JobEnd, fail_output, perform, print_line};
 use crate::progress::Quiet;
-use ftd_cli::{Job, Line, Piece, Task, command_words, decide, read_line, shown_words};
+use ftd_cli::{
+    DayClock, Job, Line, Piece, Task, command_words, decide_today, read_line, shown_words,
+};
 use ftd_desk::Desk;
 use ftd_ports::{Port, Target, WriteFault, write_pieces};
 use ftd_replies::{put, tell};
@@ -41,9 +43,13 @@ pub trait Script {
     /// The bytes that are left, where it tells them.
     ghost left: { Self → Option (List ℕ) };
 
+    /// Whether its source has failed.
+    ghost failed: { Self → Bool };
+
     /// Reads what comes next.
     fn next(&mut self) -> Result<Piece, Unread>
-        ensures { IfOk result (NextOf (left self.old) (left self.new)) };
+        ensures known { IfOk result (NextOf (left self.old) (left self.new)) }
+        ensures fails { OnErr result (failed self.new ≡ true) };
 }
 
 /// What a shell shows beside its answers.
@@ -55,7 +61,8 @@ pub struct Shows {
     pub lines: bool,
 }
 
-/// A desk that answers the lines of a script, and where the files come from that imports name.
+/// A desk that answers the lines of a script, where the files come from that imports name, and what
+/// tells the day of today to a line that leaves it out.
 pub struct Shell<S: Alter, F> {
     pub alloc: Global,
     /// The file of the desk's database.
@@ -138,7 +145,7 @@ fn is_last(has_stop: bool, status: u8) -> bool
     status == 3 || (has_stop && status != 0)
 }
 
-impl<S: Alter, F: Inputs> Shell<S, F> {
+impl<S: Alter, F: Inputs + DayClock> Shell<S, F> {
     /// What the job reads. Empty if it reads nothing.
     fn input_for(&mut self, job: &Job) -> Result<Vec<u8>, Unread>
         ensures file { OnErr result (reads_file job.now ≡ true) }
@@ -178,7 +185,7 @@ impl<S: Alter, F: Inputs> Shell<S, F> {
         ensures stays { ways_of self.new ≡ ways_of self.old }
     {
         let (mut out, mut err) = (out, err);
-        match decide(self.alloc, words) {
+        match decide_today(self.alloc, &mut self.inputs, words) {
             Ok(task) => match job_of(task) {
                 Some(job) => self.answer_job(job, out, err),
                 None => print_line(2, NOT_HERE, out, err),
@@ -329,8 +336,8 @@ impl<S: Alter, F: Inputs> Shell<S, F> {
 
     /// Answers the lines of a script, one after the other, each before the next is read. The status
     /// is the greatest of the lines'. A line of status 3 is the last, since the desk is stopped
-    /// then; with `has_stop` the first line that is not answered is the last. Where the script
-    /// can't be read, the status is at least the one that its source gives.
+    /// then; with `has_stop` the first line that is not answered is the last. Where the script's
+    /// source fails, the status is at least the one that it gives.
     pub fn answer_script<L: Script, O: Target, E: Target>(
         &mut self,
         script: &mut L,
@@ -339,7 +346,8 @@ impl<S: Alter, F: Inputs> Shell<S, F> {
         err: E,
     ) -> JobEnd<O, E>
         ensures answers { AnswersScript S.Store O.taken O.failed E.taken E.failed out err result
-            self.old.desk self.new.desk (ways_of self.old) (L.left script.old) has_stop }
+            self.old.desk self.new.desk (ways_of self.old) (L.left script.old) (L.failed script.new)
+            has_stop }
     {
         let mut end = JobEnd {
             status: 0,

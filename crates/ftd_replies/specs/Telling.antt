@@ -30,6 +30,7 @@ allowed = codes "a value that is allowed here"
 abbrev pub kind_text : Kind → List ℕ
 kind_text kind.Day = day_form
 kind_text kind.DayOrOther = day_form
+kind_text kind.DayOrToday = day_form
 kind_text kind.Days = day_form
 kind_text kind.Quarter = codes "a quarter from 1900Q1 to 2199Q4; write it like 2024Q2"
 kind_text kind.Amount = codes "an amount up to 999999999.99; write it like 1234.56"
@@ -75,6 +76,12 @@ bad_text name given asked =
 abbrev pub bad_word : Word → Option (List ℕ) → List ℕ
 bad_word word value = bad_text (word_text word) (given_text value) (asked_text word)
 
+-- today is not known, and this word is to be given
+abbrev pub no_today : List ℕ → List ℕ
+no_today name =
+    concat
+    (codes "failed Clock\nhint: today's date can't be read; give " ∷ name ∷ (10 ∷ []) ∷ [])
+
 module _ {O E : Type 0} (o_taken : O → Option (List ℕ)) (o_failed : O → Bool)
     (e_taken : E → Option (List ℕ)) (e_failed : E → Bool)
     (out out' : O) (err err' : E) where
@@ -104,6 +111,7 @@ module _ {O E : Type 0} (o_taken : O → Option (List ℕ)) (o_failed : O → Bo
   abbrev pub Tells : CliFault → ℕ → Type 0
   Tells (fault.BadArgument word value) =
       TellsFault (bad_word word (option_map string_bytes value)) 2
+  Tells (fault.NoToday word) = TellsFault (no_today (word_text word)) 3
   Tells (fault.Usage text) = TellsFault (string_bytes text) 2
   Tells (fault.Help text) = TellsHelp (string_bytes text)
   Tells fault.Memory = TellsFault (codes "failed 21 Memory\n") 3

@@ -3,15 +3,15 @@
 ghost use Rattle.std.specs.Prelude.{◌≡◌, option_map};
 ghost use Rattle.ftd_replies.specs.Putting.{IsPut};
 ghost use Rattle.ftd_replies.specs.Telling.{Tells, TellsHelp, asked_text, bad_text, bad_word};
-ghost use Rattle.ftd_replies.specs.Telling.{formats_text, given_text, kind_text};
+ghost use Rattle.ftd_replies.specs.Telling.{formats_text, given_text, kind_text, no_today};
 
 use ftd_cli::{CliFault, Word};
 use ftd_ports::{Target, write_all, write_pieces};
 use ftd_verbs::{Formats, Kind};
 
 /// Prints why the words of a command line ask nothing, or the help that they ask for, and answers
-/// the exit status: 0 for help, 2 for a bad command line, 3 where there was no memory, or where
-/// standard output failed under the help.
+/// the exit status: 0 for help, 2 for a bad command line, 3 where there was no memory, where a word
+/// is left out that is today, which is not known, or where standard output failed under the help.
 pub fn tell<O: Target, E: Target>(fault: &CliFault, out: &mut O, err: &mut E) -> u8
     ensures { Tells O.taken O.failed E.taken E.failed out.old out.new err.old err.new
         fault.now result }
@@ -20,6 +20,10 @@ pub fn tell<O: Target, E: Target>(fault: &CliFault, out: &mut O, err: &mut E) ->
         CliFault::BadArgument { word, value } => {
             tell_word(*word, value.as_deref(), err);
             2
+        }
+        CliFault::NoToday(word) => {
+            tell_no_today(word.text().as_bytes(), err);
+            3
         }
         CliFault::Usage(text) => {
             put(text.as_bytes(), err);
@@ -51,7 +55,7 @@ fn kind_bytes(kind: Kind) -> &'static [u8]
     ensures { result.now ≡ kind_text kind }
 {
     match kind {
-        Kind::Day | Kind::DayOrOther | Kind::Days => DAY_FORM,
+        Kind::Day | Kind::DayOrOther | Kind::DayOrToday | Kind::Days => DAY_FORM,
         Kind::Quarter => b"a quarter from 1900Q1 to 2199Q4; write it like 2024Q2",
         Kind::Amount => b"an amount up to 999999999.99; write it like 1234.56",
         Kind::Account => {
@@ -125,6 +129,20 @@ fn tell_bad<E: Target>(name: &[u8], given: &[u8], asked: &[u8], err: &mut E)
             given,
             b" is not ",
             asked,
+            b"\n",
+        ],
+    );
+}
+
+/// Prints that today is not known, and the word that is to be given.
+fn tell_no_today<E: Target>(name: &[u8], err: &mut E)
+    ensures { IsPut (E.taken err.old) (E.taken err.new) (E.failed err.new) (no_today name.now) }
+{
+    let _ = write_pieces(
+        err,
+        &[
+            b"failed Clock\nhint: today's date can't be read; give ",
+            name,
             b"\n",
         ],
     );

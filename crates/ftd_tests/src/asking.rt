@@ -16,7 +16,7 @@ fn task(alloc: Global, command: &str) -> Result<LocalTask, Fail> {
     for word in line.as_str().split(' ') {
         words.push(String::from_str(alloc, word)?)?;
     }
-    match decide(alloc, &words) {
+    match decide(alloc, None, &words) {
         Ok(Task::Local(task)) => Ok(task),
         _ => Err("a command on a desk".into()),
     }

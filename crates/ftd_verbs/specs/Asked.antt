@@ -17,6 +17,7 @@ use Rattle.ftd_machine.specs.Questions.{kept_asked}
 use Rattle.ftd_verbs.specs.Fields.{Said, needed}
 use Rattle.ftd_verbs.specs.declared.field.Field.{Field}
 use Rattle.ftd_verbs.specs.declared.field.Field.TheVariants as field
+use Rattle.ftd_verbs.specs.declared.verbs.TheConstants.{A_WEEK, A_MONTH}
 use Rattle.ftd_verbs.specs.declared.rows.Verb.{Verb}
 use Rattle.ftd_verbs.specs.declared.rows.Verb.TheVariants as verb
 
@@ -65,9 +66,9 @@ form_in said at = needed at (said.form at)
 abbrev pub day_or : ℕ → Said → Field → Result ℕ Field
 day_or other said at = if said.is_left_out at then Ok other else day_in said at
 
--- the day a week later, or the last day where there is no such day
-abbrev pub week_after : ℕ → ℕ
-week_after day = min (day + 7) last_day
+-- the day so many days later, or the last day where there is no such day
+abbrev pub days_after : ℕ → ℕ → ℕ
+days_after count day = min (day + count) last_day
 
 unfoldable pub enrol : Said → Result Request Field
 enrol said = do
@@ -127,8 +128,8 @@ due_list said = do
 
 unfoldable pub owed : Said → Result Request Field
 owed said = do
-  as_of ← day_in said field.AsOf
-  until ← day_or (week_after as_of) said field.Until
+  as_of ← day_in said field.AsOfToday
+  until ← day_or (days_after A_WEEK as_of) said field.Until
   Ok (request.Question (question.Owed until as_of))
 
 unfoldable pub calendar : Said → Result Request Field
@@ -210,8 +211,8 @@ explain said = do
 unfoldable pub agenda : Said → Result Request Field
 agenda said = do
   from ← day_in said field.From
-  to ← day_in said field.To
-  as_of ← day_in said field.AsOf
+  to ← day_or (days_after A_MONTH from) said field.To
+  as_of ← day_in said field.AsOfToday
   Ok (request.Question (question.Agenda from to as_of))
 
 -- all days up to the last that may be asked of, 2099-12-31, where the last day is left out

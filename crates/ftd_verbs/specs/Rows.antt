@@ -208,15 +208,15 @@ row_of verb.ScheduleB = record {
 row_of verb.Agenda = record {
   command = codes "agenda";
   method = method.Get;
-  path = text (codes "agenda") ∷ of field.From ∷ of field.To ∷ of field.AsOf ∷ [];
-  fields = field.From ∷ field.To ∷ field.AsOf ∷ [];
+  path = text (codes "agenda") ∷ of field.From ∷ of field.To ∷ of field.AsOfToday ∷ [];
+  fields = field.From ∷ field.To ∷ field.AsOfToday ∷ [];
   formats = formats.Calendar;
 }
 row_of verb.Owed = record {
   command = codes "owed";
   method = method.Get;
-  path = text (codes "owed") ∷ of field.AsOf ∷ of field.Until ∷ [];
-  fields = field.AsOf ∷ field.Until ∷ [];
+  path = text (codes "owed") ∷ of field.AsOfToday ∷ of field.Until ∷ [];
+  fields = field.AsOfToday ∷ field.Until ∷ [];
   formats = formats.Calendar;
 }
 row_of verb.Unapplied = record {

@@ -48,9 +48,11 @@ pub enum Field {
     Day,
     /// The day up to which payments count.
     AsOf,
-    /// The first due date.
+    /// The same; today where it is left out.
+    AsOfToday,
+    /// The first due date; today where it is left out.
     From,
-    /// The last due date.
+    /// The last due date; thirty days after the first where it is left out.
     To,
     /// The last due date; a week after the as-of day where it is left out.
     Until,
@@ -73,6 +75,8 @@ pub enum Kind {
     Day,
     /// A day, which may be left out: the verb says which it is then.
     DayOrOther,
+    /// A day, which may be left out where the source knows the day of today: it is today then.
+    DayOrToday,
     /// Any number of days.
     Days,
     /// A quarter.
@@ -112,7 +116,7 @@ impl Field {
             Field::Number => "number",
             Field::IsHoliday => "holiday",
             Field::Day => "day",
-            Field::AsOf => "asof",
+            Field::AsOf | Field::AsOfToday => "asof",
             Field::From => "from",
             Field::To => "to",
             Field::Until | Field::LastDay => "until",
@@ -128,15 +132,10 @@ impl Field {
             Field::Run | Field::Payment => Kind::Number,
             Field::Number => Kind::NumberOrNext,
             Field::Year => Kind::Year,
-            Field::Start
-            | Field::Payday
-            | Field::Paid
-            | Field::For
-            | Field::Day
-            | Field::AsOf
-            | Field::From
-            | Field::To => Kind::Day,
-            Field::Until | Field::LastDay => Kind::DayOrOther,
+            Field::Start | Field::Payday | Field::Paid | Field::For | Field::Day | Field::AsOf =>
+                Kind::Day,
+            Field::AsOfToday | Field::From => Kind::DayOrToday,
+            Field::To | Field::Until | Field::LastDay => Kind::DayOrOther,
             Field::Days => Kind::Days,
             Field::Quarter => Kind::Quarter,
             Field::Amount | Field::Fit | Field::Ss | Field::Medicare => Kind::Amount,

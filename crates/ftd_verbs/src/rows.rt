@@ -4,8 +4,8 @@ ghost use Rattle.std.specs.Prelude.{◌≡◌};
 ghost use Rattle.ftd_verbs.specs.Rows.{is_correction, row_of, row_seen};
 
 use crate::Field::{
-    Account, Amount, AsOf, Carried, Day, Days, Fit, For, Form, From, IsHoliday, LastDay, Medicare,
-    Number, Paid, Payday, Payment, Quarter, Run, Ss, Start, To, Until, Year,
+    Account, Amount, AsOf, AsOfToday, Carried, Day, Days, Fit, For, Form, From, IsHoliday, LastDay,
+    Medicare, Number, Paid, Payday, Payment, Quarter, Run, Ss, Start, To, Until, Year,
 };
 use crate::{Field, Formats};
 use Part::{Of, Text};
@@ -314,16 +314,16 @@ const SCHEDULE_B: Row = Row {
 const AGENDA: Row = Row {
     command: "agenda",
     method: Method::Get,
-    path: &[Text("agenda"), Of(From), Of(To), Of(AsOf)],
-    fields: &[From, To, AsOf],
+    path: &[Text("agenda"), Of(From), Of(To), Of(AsOfToday)],
+    fields: &[From, To, AsOfToday],
     formats: Formats::Calendar,
 };
 
 const OWED: Row = Row {
     command: "owed",
     method: Method::Get,
-    path: &[Text("owed"), Of(AsOf), Of(Until)],
-    fields: &[AsOf, Until],
+    path: &[Text("owed"), Of(AsOfToday), Of(Until)],
+    fields: &[AsOfToday, Until],
     formats: Formats::Calendar,
 };
 

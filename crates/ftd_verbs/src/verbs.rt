@@ -9,7 +9,7 @@ ghost use Rattle.ftd_verbs.specs.Asked.{days_in, due_list, enrol, explain, form_
 ghost use Rattle.ftd_verbs.specs.Asked.{mark_in, number_in, open_year, owed, pay, payments, post};
 ghost use Rattle.ftd_verbs.specs.Asked.{quarter_in, report, report_year, reported, runs};
 ghost use Rattle.ftd_verbs.specs.Asked.{last_asked, schedule_b, status, unapplied, void};
-ghost use Rattle.ftd_verbs.specs.Asked.{void_pay, week_after, whole_in, years};
+ghost use Rattle.ftd_verbs.specs.Asked.{void_pay, days_after, whole_in, years};
 
 use crate::{Field, FieldFault, Fields, Verb};
 use ftd_days::{Cents, Day, LAST_NUMBER, Quarter};
@@ -100,13 +100,19 @@ fn day_or<F: Fields>(other: Day, fields: &F, at: Field) -> Result<Day, FieldFaul
     day_in(fields, at)
 }
 
-/// The day a week later, or the last day where there is no such day.
-fn week_after(day: Day) -> Day
-    ensures { result ≡ week_after day }
+/// The day so many days later, or the last day where there is no such day.
+fn days_after(count: u32, day: Day) -> Day
+    ensures { result ≡ days_after count day }
 {
     let left = (LAST_NUMBER - day.number()).unsigned_abs();
-    day.plus(left.min(7))
+    day.plus(left.min(count))
 }
+
+/// How many days after the as-of day is the last due date of what is owed, where it is left out.
+const A_WEEK: u32 = 7;
+
+/// How many days after the first due date is the last one of an agenda, where it is left out.
+const A_MONTH: u32 = 30;
 
 /// A new account.
 #[tactic(auto, unfolding(crate::specs::Asked::enrol))]
@@ -216,8 +222,8 @@ fn due_list<F: Fields>(alloc: Global, fields: &F) -> Result<Request, FieldFault>
 fn owed<F: Fields>(fields: &F) -> Result<Request, FieldFault>
     ensures { Tells result (owed (F.said fields.now)) }
 {
-    let as_of = day_in(fields, Field::AsOf)?;
-    let until = day_or(week_after(as_of), fields, Field::Until)?;
+    let as_of = day_in(fields, Field::AsOfToday)?;
+    let until = day_or(days_after(A_WEEK, as_of), fields, Field::Until)?;
     Ok(Request::Question(Question::Owed { until, as_of }))
 }
 
@@ -371,8 +377,8 @@ fn agenda<F: Fields>(fields: &F) -> Result<Request, FieldFault>
     ensures { Tells result (agenda (F.said fields.now)) }
 {
     let from = day_in(fields, Field::From)?;
-    let to = day_in(fields, Field::To)?;
-    let as_of = day_in(fields, Field::AsOf)?;
+    let to = day_or(days_after(A_MONTH, from), fields, Field::To)?;
+    let as_of = day_in(fields, Field::AsOfToday)?;
     Ok(Request::Question(Question::Agenda { from, to, as_of }))
 }
 

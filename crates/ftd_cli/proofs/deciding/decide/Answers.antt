@@ -4,11 +4,11 @@ use Rattle.ftd_cli.proofs.TaskFacts.{parsed_task, refused_shows, refused_task, v
 use Rattle.ftd_cli.proofs.deciding.decide.Goals as goal
 
 pub returns-in-Ok-task_in-clause-asked : goal.returns-in-Ok-task_in-clause-asked
-returns-in-Ok-task_in-clause-asked c = parsed_task _ _ c.in-Ok.ensures.0 c.in-Ok.ensures.1
+returns-in-Ok-task_in-clause-asked c = parsed_task _ _ _ c.in-Ok.ensures.0 c.in-Ok.ensures.1
     ∙ ap by_value c.in-Ok-task_in.ensures
 
 pub returns-in-Ok-clause-asked : goal.returns-in-Ok-clause-asked
-returns-in-Ok-clause-asked c = rw (parsed_task _ _ c.in-Ok.ensures.0 c.in-Ok.ensures.1)
+returns-in-Ok-clause-asked c = rw (parsed_task _ _ _ c.in-Ok.ensures.0 c.in-Ok.ensures.1)
     (value_told c.in-Err.fault _ _ c.in-Err.ensures c.told_fault.ensures.told)
 
 pub returns-in-Ok-clause-value : goal.returns-in-Ok-clause-value
@@ -17,9 +17,11 @@ returns-in-Ok-clause-value c = rw c.in-Ok.ensures.1 at c.told_fault.ensures.valu
 pub returns-clause-asked : goal.returns-clause-asked
 returns-clause-asked c =
     let among = rw c.in-Err-Refused.field-0-is at c.in-Err-Refused.ensures in
-    refused_task _ _ _ among (c.told_error.ensures _ among)
+    let told = rw c.in-Err-Refused.field-0-is at c.told_error.ensures in
+    refused_task _ _ _ _ among (told _ among)
 
 pub returns-clause-value : goal.returns-clause-value
 returns-clause-value c =
     let among = rw c.in-Err-Refused.field-0-is at c.in-Err-Refused.ensures in
-    refused_shows _ _ _ (c.told_error.ensures _ among)
+    let told = rw c.in-Err-Refused.field-0-is at c.told_error.ensures in
+    refused_shows _ _ _ (told _ among)

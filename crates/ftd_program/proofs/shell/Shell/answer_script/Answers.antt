@@ -18,7 +18,7 @@ loop-number-preserved g c =
       ),
       c.answer_next-end.ensures.stays ∙ so_far.3,
       sym c.is_last.ensures ∙ c.if-is_last.false,
-      left_more so_far.0 _ _ _ piece so_far.5 c.in-Ok.ensures,
+      left_more so_far.0 _ _ _ piece so_far.5 c.in-Ok.ensures.known,
     )
 
 pub returns-in-Err : goal.returns-in-Err
@@ -30,7 +30,7 @@ returns-in-Err g c =
         end = c.loop-number.end;
         answers = so_far.2;
         begins = begins so_far.0 _ _ so_far.5;
-        ends = broken c.in-Err.unread.status c.in-Err.unread.said.items (record {
+        ends = broken c.in-Err.unread.status c.in-Err.unread.said.items c.in-Err.ensures.fails (record {
           status_is = c.end_unread.ensures.status_is;
           out_is = c.end_unread.ensures.out_is;
           line = c.end_unread.ensures.line;
@@ -47,7 +47,7 @@ returns-in-End g c =
         end = c.loop-number.end;
         answers = so_far.2;
         begins = begins so_far.0 _ _ so_far.5;
-        ends = whole refl (ended so_far.0 _ _ _ so_far.5 (rw c.in-End.is at c.in-Ok.ensures));
+        ends = whole refl (ended so_far.0 _ _ _ so_far.5 (rw c.in-End.is at c.in-Ok.ensures.known));
       };
     }
 
@@ -67,7 +67,7 @@ returns-then-is_last g c =
           rw (so_far.3, sym so_far.1) at c.answer_next-end.ensures.answers,
         );
         begins = begins (piece ∷ so_far.0) _ _
-            (left_more so_far.0 _ _ _ piece so_far.5 c.in-Ok.ensures);
+            (left_more so_far.0 _ _ _ piece so_far.5 c.in-Ok.ensures.known);
         ends = last refl (sym c.is_last.ensures ∙ c.if-is_last.true);
       };
     }
