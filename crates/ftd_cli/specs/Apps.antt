@@ -72,6 +72,10 @@ program =
     let app = new_app (codes "ftd") in
     record app { top = record app.top { subcommand_required = true; has_version = true } }
 
+-- the command line with this subcommand alone
+abbrev pub single : Name → App
+single name = with_subcommand program (app_for name).top
+
 -- the whole command line
 unfoldable pub ftd_app : App
 ftd_app = with_names program all_names

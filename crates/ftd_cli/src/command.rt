@@ -4,7 +4,7 @@ ghost use Rattle.std.specs.Prelude.{◌≡◌, IfOk, false};
 ghost use Rattle.clap.specs.Words.{app_of, rule_of, shape_of, with_rule, with_subcommand};
 ghost use Rattle.clap.specs.declared.builder.command.Command.TheViews.{out-Command};
 ghost use Rattle.ftd_cli.specs.Apps.{app_for, ftd_app, program, rule_for, seconds_or};
-ghost use Rattle.ftd_cli.specs.Apps.{with_fields, with_names, with_words};
+ghost use Rattle.ftd_cli.specs.Apps.{single, with_fields, with_names, with_words};
 
 use crate::{NAMES, Name, Takes, Word};
 use clap::builder::ValueParser;
@@ -156,6 +156,14 @@ fn with_all<'a>(
         command = with_command(command, command_of(alloc, *name)?)?;
     }
     Ok(command)
+}
+
+/// The command line with this subcommand alone.
+pub fn single_command<'a>(alloc: Global, name: Name) -> Result<Command<'a>, AllocError>
+    ensures app { IfOk result (λ c. app_of c ≡ single name) }
+    ensures local { IfOk result (λ c. (out-Command c).has_globals ≡ false) }
+{
+    with_command(top_command(alloc), command_of(alloc, name)?)
 }
 
 /// The whole command line.
