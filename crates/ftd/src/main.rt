@@ -1,14 +1,17 @@
 //! The federal tax deposit desk: what is asked on the command line is done with the desk's file, or
-//! over the connections of a server.
+//! over the connections of a server, or asked of a server that runs.
 #![tactic(auto)]
 
 mod beginning;
+mod client;
+mod commands;
 mod jobs;
 mod lines;
 mod progress;
 mod server;
 mod shell;
 
+use crate::client::{ask, remote_of};
 use crate::jobs::{local, report_fault};
 use crate::server::serve_file;
 use crate::shell::shell;
@@ -26,9 +29,8 @@ fn main(rt: HostRuntime) -> ExitCode {
     }
 }
 
-/// The words of the command line, with the file that the environment names where they name none.
-fn given_words(rt: &HostRuntime) -> Result<Vec<String>, ProgramFault> {
-    let words = words(rt)?;
+/// The words, with the file that the environment names where they name none.
+fn given_words(rt: &HostRuntime, words: Vec<String>) -> Result<Vec<String>, ProgramFault> {
     match named_file(rt)? {
         Some(file) => Ok(with_file(rt.alloc(), &file, &words)?),
         None => Ok(words),
@@ -37,7 +39,11 @@ fn given_words(rt: &HostRuntime) -> Result<Vec<String>, ProgramFault> {
 
 /// Does what the words ask, and gives the exit status.
 fn run(rt: &HostRuntime) -> Result<u8, ProgramFault> {
-    let words = given_words(rt)?;
+    let words = words(rt)?;
+    if let Some(remote) = remote_of(&words) {
+        return ask(rt, &remote);
+    }
+    let words = given_words(rt, words)?;
     match decide_today(rt.alloc(), &mut SystemClock::new(rt), &words) {
         Ok(task) => Ok(done(rt, task)),
         Err(fault) => {

@@ -1,9 +1,11 @@
 //! The server: connections over the desk of a database file.
 
+use crate::commands::{server_desk, server_shell};
+use crate::shell::Around;
 use ftd_cli::ServeTask;
-use ftd_desk::Desk;
 use ftd_files::{ProgramFault, close_files, desk_of, is_new, open_with_short_log, tell_made};
 use ftd_ports::Port;
+use ftd_program::Shell;
 use ftd_server::{Limits, announce, serve_on};
 use sqlite::{Alter, Connection, FileStore};
 use sqlite_disk::Disk;
@@ -35,6 +37,17 @@ pub fn serve_file(rt: &HostRuntime, task: &ServeTask) -> Result<u8, ProgramFault
     Ok(0)
 }
 
+/// The shell of a server over the tables in files.
+fn shell_of<'a, D: Disk + Drop>(
+    rt: &'a HostRuntime,
+    task: &ServeTask,
+    conn: Connection<FileStore<D>>,
+) -> Result<Shell<FileStore<D>, Around<'a>>, ProgramFault> {
+    let desk = desk_of(rt, conn)?;
+    let db = String::from_str(rt.alloc(), &task.db)?;
+    Ok(server_shell(rt.alloc(), db, desk, Around::new(rt, true)))
+}
+
 /// Tells at which port the server listens, and serves connections over the tables in files, which
 /// are closed; how many were taken. None if the port could not be told.
 fn serve_first<D: Disk + Drop>(
@@ -44,15 +57,15 @@ fn serve_first<D: Disk + Drop>(
     conn: Connection<FileStore<D>>,
     is_new: bool,
 ) -> Result<Option<u32>, ProgramFault> {
-    let mut desk = desk_of(rt, conn)?;
+    let mut shell = shell_of(rt, task, conn)?;
     if is_new {
         tell_made(rt, &task.db);
     }
     let mut taken = None;
     if is_announced(rt, listener) {
-        taken = Some(serve_until(rt, task, listener, 0, &mut desk));
+        taken = Some(serve_until(rt, task, listener, 0, &mut shell));
     }
-    closed_after(desk, taken.is_none_or(|it| it >= task.connections))?;
+    closed_after(shell, taken.is_none_or(|it| it >= task.connections))?;
     Ok(taken)
 }
 
@@ -65,19 +78,19 @@ fn serve_again<D: Disk + Drop>(
     taken: u32,
     conn: Connection<FileStore<D>>,
 ) -> Result<u32, ProgramFault> {
-    let mut desk = desk_of(rt, conn)?;
-    let taken = serve_until(rt, task, listener, taken, &mut desk);
-    closed_after(desk, taken >= task.connections)?;
+    let mut shell = shell_of(rt, task, conn)?;
+    let taken = serve_until(rt, task, listener, taken, &mut shell);
+    closed_after(shell, taken >= task.connections)?;
     Ok(taken)
 }
 
-/// Closes the files of a desk. `NotClosed` if they can't be and are not opened again, by which what
+/// Closes the files of a shell's desk. `NotClosed` if they can't be and are not opened again, by which what
 /// is in the log would be found.
 fn closed_after<D: Disk + Drop>(
-    desk: Desk<FileStore<D>>,
+    shell: Shell<FileStore<D>, Around<'_>>,
     is_last: bool,
 ) -> Result<(), ProgramFault> {
-    match close_files(desk) {
+    match close_files(server_desk(shell)) {
         Err(fault) if is_last => Err(fault),
         Ok(()) | Err(_) => Ok(()),
     }
@@ -89,14 +102,14 @@ fn is_announced(rt: &HostRuntime, listener: &TcpListener) -> bool {
     announce(listener, &mut out, &mut err).is_ok()
 }
 
-/// Serves connections after so many others, until all are served or the desk does not answer any
-/// more, and answers how many were taken in all.
+/// Serves connections after so many others, until all are served or the shell's desk does not answer
+/// any more, and answers how many were taken in all.
 fn serve_until<S: Alter>(
     rt: &HostRuntime,
     task: &ServeTask,
     listener: &TcpListener,
     taken: u32,
-    desk: &mut Desk<S>,
+    shell: &mut Shell<S, Around<'_>>,
 ) -> u32 {
     let limits = Limits {
         connections: task.connections,
@@ -110,7 +123,7 @@ fn serve_until<S: Alter>(
         listener,
         limits,
         taken,
-        desk,
+        shell,
         &mut Port::new(rt.stderr()),
     )
 }

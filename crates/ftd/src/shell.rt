@@ -27,11 +27,22 @@ const TAKEN: &[u8] = b"error: standard input has the script\n";
 
 /// The files that the imports of a script name, and the clock of its lines.
 #[derive(Drop)]
-struct Around<'a> {
+pub(crate) struct Around<'a> {
     rt: &'a HostRuntime,
     clock: SystemClock<'a>,
     /// Standard input has the script.
     is_taken: bool,
+}
+
+impl<'a> Around<'a> {
+    /// What is around a shell whose script is standard input, or is not.
+    pub(crate) fn new(rt: &'a HostRuntime, is_taken: bool) -> Around<'a> {
+        Around {
+            rt,
+            clock: SystemClock::new(rt),
+            is_taken,
+        }
+    }
 }
 
 impl DayClock for Around<'_> {
@@ -67,11 +78,8 @@ fn over_files<D: Disk + Drop, L: Script + Drop>(
         alloc: rt.alloc(),
         db: String::from_str(rt.alloc(), &task.db)?,
         desk,
-        inputs: Around {
-            rt,
-            clock: SystemClock::new(rt),
-            is_taken: task.script.as_str() == STANDARD_INPUT,
-        },
+        inputs: Around::new(rt, task.script.as_str() == STANDARD_INPUT),
+        does_imports: true,
         shows: Shows {
             commands: task.has_echo,
             lines: names_lines,
@@ -86,6 +94,7 @@ fn over_files<D: Disk + Drop, L: Script + Drop>(
         alloc: _,
         db: _,
         inputs: _,
+        does_imports: _,
         shows: _,
     } = shell;
     close_files(desk)?;

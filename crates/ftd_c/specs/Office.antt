@@ -3,6 +3,7 @@ use Rattle.std.specs.Prelude.{◌≡◌, ℕ, ◌<◌, ◌≤◌, ◌++◌, List
 use Rattle.ftd_machine.specs.State.{State, nothing}
 use Rattle.ftd_machine.specs.Runs.{Goes}
 use Rattle.ftd_http.specs.Messages.{Message}
+use Rattle.ftd_server.specs.Replying.{ByRequests}
 use Rattle.ftd_server.specs.Serving.{Answered, ServesMessages}
 use Rattle.ftd_server.specs.declared.connection.ServedConnection.{ServedConnection}
 
@@ -10,10 +11,11 @@ use Rattle.ftd_server.specs.declared.connection.ServedConnection.{ServedConnecti
 abbrev pub no_answers : ℕ
 no_answers = 18_446_744_073_709_551_615
 
--- the deposit machine, from nothing accepted on, answers these messages, and the text of its
--- answers is this one
+-- the deposit machine, from nothing accepted on, answers these messages, of which it takes requests
+-- and no commands, and the text of its answers is this one
 abbrev pub IsAnswered : List Message → List ℕ → Type 0
-IsAnswered messages text = (end : State) × Answered Goes nothing end messages text
+IsAnswered messages text =
+    (end : State) × Answered (ByRequests Goes) nothing end messages text
 
 -- The text of the answers to these bytes: they are served as one connection, whose messages the
 -- machine answers so, and whose peer is never idle. What is unread comes after its end.

@@ -7,24 +7,24 @@ use Rattle.std.proofs.lemmas.Str.{IsUtf8-from_is_utf8, is_utf8-from_IsUtf8}
 use Rattle.ftd_machine.specs.declared.requests.Request.{Request}
 use Rattle.ftd_http.specs.Routes.{route_of}
 use Rattle.ftd_http.specs.Requests.{request_of}
-use Rattle.ftd_http.specs.Asking.{method_text, method_of, formed, routed, asked_of}
+use Rattle.ftd_http.specs.Asking.{method_text, method_of, formed, routed, verb_asked}
 use Rattle.ftd_http.specs.declared.route.Route.{Route}
 use Rattle.ftd_http.specs.declared.ask.Inquiry.TheVariants as asked
 
 -- by the test for UTF-8
-by_text : (m t b : List ℕ) (text : Bool) → is_utf8 t ≡ text → asked_of m t b ≡ cond text
+by_text : (m t b : List ℕ) (text : Bool) → is_utf8 t ≡ text → verb_asked m t b ≡ cond text
     (routed m t b (route_of t)) asked.NoRoute
-unfolding asked_of
+unfolding verb_asked
 by_text m t b text e = ap (λ z. cond z (routed m t b (route_of t)) asked.NoRoute) e
 
-pub no_text : (m t b : List ℕ) → (IsUtf8 t → ⊥) → asked.NoRoute ≡ asked_of m t b
+pub no_text : (m t b : List ℕ) → (IsUtf8 t → ⊥) → asked.NoRoute ≡ verb_asked m t b
 no_text m t b none = elim (cases_Bool (is_utf8 t)) [
   | inl e ↦ absurd (none (IsUtf8-from_is_utf8 t e))
   | inr e ↦ sym (by_text m t b false e)
 ]
 
 pub by_route : (m t b : List ℕ) (route : Option Route) → IsUtf8 t → route ≡ route_of t
-    → routed m t b route ≡ asked_of m t b
+    → routed m t b route ≡ verb_asked m t b
 by_route m t b route utf8 e = ap (routed m t b) e
     ∙ sym (by_text m t b true (is_utf8-from_IsUtf8 t utf8))
 
@@ -39,12 +39,12 @@ by_method m t b route right e =
 
 pub wrong_method : (m t b : List ℕ) (route : Route) → IsUtf8 t → Some route ≡ route_of t
     → bytes_eq m (method_text (method_of route)) ≡ false
-    → asked.OtherMethod (method_of route) ≡ asked_of m t b
+    → asked.OtherMethod (method_of route) ≡ verb_asked m t b
 wrong_method m t b route utf8 found wrong = sym (by_method m t b route false wrong)
     ∙ by_route m t b (Some route) utf8 found
 
 pub right_method : (m t b : List ℕ) (route : Route) (request : Option Request) → IsUtf8 t
     → Some route ≡ route_of t → bytes_eq m (method_text (method_of route)) ≡ true
-    → request ≡ request_of route.verb t b → formed route.format request ≡ asked_of m t b
+    → request ≡ request_of route.verb t b → formed route.format request ≡ verb_asked m t b
 right_method m t b route request utf8 found right is = ap (formed route.format) is
     ∙ (sym (by_method m t b route true right) ∙ by_route m t b (Some route) utf8 found)

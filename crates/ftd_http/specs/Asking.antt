@@ -35,8 +35,21 @@ routed method target body (Some route) =
     then formed route.format (request_of route.verb target body)
     else asked.OtherMethod (method_of route)
 
--- what a message of this method, this target and this body asks; a target that is no UTF-8 has no
--- route
+-- what a message asks by the route of a verb; a target that is no UTF-8 has none
+unfoldable pub verb_asked : List ℕ → List ℕ → List ℕ → Inquiry
+verb_asked method target body =
+    if is_utf8 target then routed method target body (route_of target) else asked.NoRoute
+
+-- the target of commands, which stand in the body, and what a message of this method asks there
+abbrev pub commands_path : List ℕ
+commands_path = codes "/commands"
+
+abbrev pub commands_asked : List ℕ → Inquiry
+commands_asked method =
+    if bytes_eq method (method_text Post) then asked.Commands else asked.OtherMethod Post
+
+-- what a message of this method, this target and this body asks
 unfoldable pub asked_of : List ℕ → List ℕ → List ℕ → Inquiry
 asked_of method target body =
-    if is_utf8 target then routed method target body (route_of target) else asked.NoRoute
+    if bytes_eq target commands_path then commands_asked method
+    else verb_asked method target body

@@ -3,7 +3,8 @@
 ghost use Rattle.std.specs.Prelude.{◌≡◌, IfOk};
 ghost use Rattle.std.specs.Str.{bytes_eq};
 ghost use Rattle.ftd_http.specs.Routes.{all_routes};
-ghost use Rattle.ftd_http.specs.Asking.{asked_of, formed, method_text};
+ghost use Rattle.ftd_http.specs.Asking.{asked_of, commands_asked, commands_path, formed};
+ghost use Rattle.ftd_http.specs.Asking.{method_text, verb_asked};
 
 use crate::message_fields::make_request;
 use crate::route::look_up;
@@ -22,6 +23,8 @@ pub enum Inquiry {
     OtherMethod(Method),
     /// A part of the path, or the body, is not of the route's form.
     BadForm,
+    /// The commands that stand in its body, one a line, are to be answered.
+    Commands,
     /// A request to the desk. A reply that has several formats is told in this one.
     Asks { format: Format, request: Request },
 }
@@ -40,6 +43,7 @@ pub fn method_bytes(method: Method) -> &'static [u8]
 
 /// What a message of this method, this target and this body asks. An error says that there was no
 /// memory.
+#[tactic(auto, unfolding(crate::specs::Asking::asked_of))]
 pub fn what_is_asked(
     alloc: Global,
     router: &Router<Verb>,
@@ -49,6 +53,42 @@ pub fn what_is_asked(
 ) -> Result<Inquiry, AllocError>
     requires { router.now ≡ all_routes }
     ensures { IfOk result (λ asked. asked ≡ asked_of method.now target.now body.now) }
+{
+    if is_of_commands(target) {
+        Ok(commands_asked(method))
+    } else {
+        verb_asked(alloc, router, method, target, body)
+    }
+}
+
+/// Whether the target is that of commands.
+fn is_of_commands(target: &[u8]) -> bool
+    ensures { result ≡ bytes_eq target.now commands_path }
+{
+    target == b"/commands".as_slice()
+}
+
+/// What a message of this method asks whose target is that of commands.
+fn commands_asked(method: &[u8]) -> Inquiry
+    ensures { result ≡ commands_asked method.now }
+{
+    if is_method(method, Method::Post) {
+        Inquiry::Commands
+    } else {
+        Inquiry::OtherMethod(Method::Post)
+    }
+}
+
+/// What a message asks whose target is another.
+fn verb_asked(
+    alloc: Global,
+    router: &Router<Verb>,
+    method: &[u8],
+    target: &[u8],
+    body: &[u8],
+) -> Result<Inquiry, AllocError>
+    requires { router.now ≡ all_routes }
+    ensures { IfOk result (λ asked. asked ≡ verb_asked method.now target.now body.now) }
 {
     let Ok(target) = str::from_utf8(target) else {
         return Ok(Inquiry::NoRoute);

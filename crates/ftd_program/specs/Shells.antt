@@ -32,18 +32,25 @@ abbrev pub reads_file : Job → Bool
 reads_file (job.Import sheet file is_trial) = true
 reads_file other = false
 
--- the job that a task does with a desk, if it is one that a shell does
-abbrev pub job_of : Task → Option Job
-job_of (task.Local local) = Some local.job
-job_of other = None
+-- the job that a task does with a desk, if it is one that a shell does, which does imports or not
+abbrev pub job_of : Bool → Task → Option Job
+job_of does_imports (task.Local local) =
+    if does_imports || not (reads_file local.job) then Some local.job else None
+job_of does_imports other = None
 
--- what stays the same in a shell: the file of its desk, as hints name it, and what it shows
+-- what stays the same in a shell: the file of its desk, as hints name it, whether it does imports,
+-- and what it shows
 pub record Ways : Type 0 where
   pub db : List ℕ
+  pub does_imports : Bool
   pub shows : Shows
 
 abbrev pub ways_of : {S F : Type 0} → Shell S F → Ways
-ways_of shell = record { db = string_bytes shell.db; shows = shell.shows }
+ways_of shell = record {
+  db = string_bytes shell.db;
+  does_imports = shell.does_imports;
+  shows = shell.shows;
+}
 
 -- ---- texts
 
@@ -126,12 +133,13 @@ module _ {S O E : Type 0} (g : store.Ghosts S) (o_taken : O → Option (List ℕ
 
   -- what the words of a command ask was done and told, as by the command itself, on the day that
   -- the clock told
-  pub record AnswersCommand (old new : Desk S) (db : List ℕ) (words : List (List ℕ)) : Type 0
+  pub record AnswersCommand (old new : Desk S) (ways : Ways) (words : List (List ℕ)) : Type 0
     where
       pub decided : Result Task CliFault
       pub today : Option ℕ
       pub gives : DecidesOn today words decided
-      pub does : MatchResult decided (λ given. DoesIfAny old new db (job_of given))
+      pub does : MatchResult decided
+          (λ given. DoesIfAny old new ways.db (job_of ways.does_imports given))
           (λ f. (new ≡ old)
           × Tells o_taken o_failed e_taken e_failed out p.out err p.err f p.status)
 
@@ -149,7 +157,7 @@ module _ {S O E : Type 0} (g : store.Ghosts S) (o_taken : O → Option (List ℕ
       pub is_unsaid : said_in unsaid ≡ []
       pub end : JobEnd O (Port (Vec ℕ))
       pub answers : AnswersCommand g o_taken o_failed said_by has_failed shown unsaid end old new
-          ways.db (command_words ways.db words)
+          ways (command_words ways.db words)
       pub status_is : p.status ≡ end.status
       pub out_is : p.out ≡ end.out
       pub puts : IsPut (e_taken err) (e_taken p.err) (e_failed p.err)

@@ -69,6 +69,8 @@ pub struct Shell<S: Alter, F> {
     pub db: String,
     pub desk: Desk<S>,
     pub inputs: F,
+    /// Whether it does imports.
+    pub does_imports: bool,
     pub shows: Shows,
 }
 
@@ -81,12 +83,25 @@ const NO_TEXT: &[u8] = b"error: a word is no text\n";
 /// What is told of a line that is too long.
 const TOO_LONG: &[u8] = b"error: the line has more than 65536 bytes\n";
 
-/// The job that a task does with a desk, if it is one that a shell does.
-fn job_of(task: Task) -> Option<Job>
-    ensures { result ≡ job_of task }
+/// Whether the job reads a file, as an import does.
+fn reads_file(job: &Job) -> bool
+    ensures { result ≡ reads_file job.now }
+{
+    matches!(job, Job::Import { .. })
+}
+
+/// The job that a task does with a desk, if it is one that a shell does, which does imports or not.
+fn job_of(task: Task, does_imports: bool) -> Option<Job>
+    ensures { result ≡ job_of does_imports task }
 {
     match task {
-        Task::Local(task) => Some(task.job),
+        Task::Local(task) => {
+            if does_imports || !reads_file(&task.job) {
+                Some(task.job)
+            } else {
+                None
+            }
+        }
         _ => None,
     }
 }
@@ -173,7 +188,7 @@ impl<S: Alter, F: Inputs + DayClock> Shell<S, F> {
     }
 
     /// Does what the words of a command ask with the desk. What only a command line of its own can
-    /// ask, as a server, is told to be none of the shell's.
+    /// ask, as a server, is told to be none of the shell's, and so is an import where it does none.
     fn answer_command<O: Target, E: Target>(
         &mut self,
         words: &[String],
@@ -181,12 +196,12 @@ impl<S: Alter, F: Inputs + DayClock> Shell<S, F> {
         err: E,
     ) -> JobEnd<O, E>
         ensures answers { AnswersCommand S.Store O.taken O.failed E.taken E.failed out err result
-            self.old.desk self.new.desk (ways_of self.old).db (map string_bytes words.now) }
+            self.old.desk self.new.desk (ways_of self.old) (map string_bytes words.now) }
         ensures stays { ways_of self.new ≡ ways_of self.old }
     {
         let (mut out, mut err) = (out, err);
         match decide_today(self.alloc, &mut self.inputs, words) {
-            Ok(task) => match job_of(task) {
+            Ok(task) => match job_of(task, self.does_imports) {
                 Some(job) => self.answer_job(job, out, err),
                 None => print_line(2, NOT_HERE, out, err),
             },
@@ -348,6 +363,7 @@ impl<S: Alter, F: Inputs + DayClock> Shell<S, F> {
         ensures answers { AnswersScript S.Store O.taken O.failed E.taken E.failed out err result
             self.old.desk self.new.desk (ways_of self.old) (L.left script.old) (L.failed script.new)
             has_stop }
+        ensures stays { ways_of self.new ≡ ways_of self.old }
     {
         let mut end = JobEnd {
             status: 0,

@@ -15,12 +15,9 @@ use Rattle.ftd_http.specs.Looks.{IsMessageAt}
 use Rattle.ftd_http.specs.Reading.{Reads, Takes}
 use Rattle.ftd_http.specs.declared.look.Parts.{Parts}
 use Rattle.ftd_http.specs.declared.status.Status.{Status}
-use Rattle.ftd_machine.specs.declared.requests.Request.{Request}
-use Rattle.ftd_machine.specs.Checks.{Answer}
 use Rattle.httparse.specs.Spans.{span_bytes}
 use Rattle.ftd_server.specs.Responses.{Said, response_text}
 use Rattle.ftd_http.specs.Asking.{asked_of}
-use Rattle.ftd_server.specs.Replying.{Responds}
 use Rattle.ftd_http.specs.declared.ask.Inquiry.{Inquiry}
 use Rattle.ftd_server.specs.Serving.{Ends, closed, truncated, bad, asked, limit, idled}
 use Rattle.ftd_server.specs.Serving.{closes_after, refusal_text, IsAnswer, none, more, Broken}
@@ -59,7 +56,7 @@ fails_so why.Read source_failed target_failed failed = cc
 fails_so why.Write source_failed target_failed failed = failed
 fails_so why.Memory source_failed target_failed failed = failed
 
-module _ {M : Type 0} (goes : M → Request → Answer → M → Type 0) where
+module _ {M : Type 0} (goes : M → Inquiry → List ℕ → Said → M → Type 0) where
   -- nothing is read yet
   pub begins : (start : M) (left taken : Option (List ℕ))
       → Talk goes start start left left taken taken [] 0
@@ -321,11 +318,12 @@ module _ {M : Type 0} (goes : M → Request → Answer → M → Type 0) where
       (said : Said) → IsMessageAt buf parts message
       → what ≡ asked_of (span_bytes buf parts.method) (span_bytes buf parts.target)
       (slice_range buf parts.body parts.end)
-      → Responds goes now what said later
-      → Responds goes now (asked_of message.head.method message.head.target message.body) said later
+      → goes now what (slice_range buf parts.body parts.end) said later
+      → goes now (asked_of message.head.method message.head.target message.body) message.body said
+      later
   responds_at buf parts message what now later said at is responds =
-      let P : Inquiry → Type 0 = λ a. Responds goes now a said later in
-      subst P (asked_at buf parts message what at is) responds
+      let P : Inquiry → Type 0 = λ a. goes now a message.body said later in
+      subst P (asked_at buf parts message what at is) (rw at.body at responds)
 
   -- whether the connection closes after the answer, by the parts of the message
   closing_at : (before : ℕ) (buf : List ℕ) (parts : Parts) (message : Message) (close : Bool)
@@ -340,7 +338,8 @@ module _ {M : Type 0} (goes : M → Request → Answer → M → Type 0) where
       → IsMessageAt buf parts message
       → what ≡ asked_of (span_bytes buf parts.method) (span_bytes buf parts.target)
       (slice_range buf parts.body parts.end)
-      → (later ≡ now) ⊎ ((said : Said) × Responds goes now what said later)
+      → (later ≡ now)
+      ⊎ ((said : Said) × goes now what (slice_range buf parts.body parts.end) said later)
       → (part : List ℕ) × BreaksOff goes before buf now later part why.Memory
       × Appends taken taken part
   lost_answer before buf parts message what now later taken at is (inl same) =
@@ -364,7 +363,8 @@ module _ {M : Type 0} (goes : M → Request → Answer → M → Type 0) where
       → IsMessageAt buf parts message
       → what ≡ asked_of (span_bytes buf parts.method) (span_bytes buf parts.target)
       (slice_range buf parts.body parts.end)
-      → close ≡ (parts.closes || (before == 99)) → Responds goes now what said later
+      → close ≡ (parts.closes || (before == 99))
+      → goes now what (slice_range buf parts.body parts.end) said later
       → WritesPrefix taken taken' (response_text said close)
       → (part : List ℕ) × BreaksOff goes before buf now later part why.Write
       × Appends taken taken' part

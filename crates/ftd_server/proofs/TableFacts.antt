@@ -6,21 +6,18 @@ use Rattle.std.specs.Prelude.{IfOk, IfErr}
 use Rattle.sqlite.specs.Store as store
 use Rattle.ftd_machine.specs.State.{State}
 use Rattle.ftd_machine.specs.Runs.{Goes}
-use Rattle.ftd_machine.specs.Checks.{Answer}
-use Rattle.ftd_machine.specs.declared.requests.Request.{Request}
 use Rattle.ftd_desk.specs.Desks.{Held, held}
-use Rattle.ftd_desk.specs.Words.{Handles}
 use Rattle.ftd_desk.specs.declared.desk.Desk.{Desk}
 use Rattle.ftd_http.specs.Messages.{Message}
 use Rattle.ftd_http.specs.Asking.{asked_of}
 use Rattle.ftd_http.specs.declared.ask.Inquiry.{Inquiry}
 use Rattle.ftd_http.specs.declared.ask.Inquiry.TheVariants as asked
 use Rattle.ftd_server.specs.Responses.{Said}
-use Rattle.ftd_server.specs.Replying.{Responds}
+use Rattle.ftd_server.specs.Replying.{ByRequests, Responds}
 use Rattle.ftd_server.specs.Serving.{IsAnswer, Answers, none, more, Answered, Broken}
 use Rattle.ftd_server.specs.Serving.{BreaksOff, unasked, in_answer, in_refusal}
 use Rattle.ftd_server.specs.Serving.{ServesMessages, Breaks}
-use Rattle.ftd_server.specs.Tables.{Follows, AnsweredBy, BrokenBy}
+use Rattle.ftd_server.specs.Tables.{Follows, AnsweredBy, BrokenBy, handles}
 use Rattle.ftd_server.specs.declared.connection.Cause.{Cause}
 use Rattle.ftd_server.specs.declared.connection.ServedConnection.{ServedConnection}
 use Rattle.ftd_server.specs.declared.connection.ServeFault.{ServeFault}
@@ -73,13 +70,19 @@ weaker old new first so a less =
     }
 
 module _ {S : Type 0} (g : store.Ghosts S) where
-  abbrev pub goes : Desk S → Request → Answer → Desk S → Type 0
-  goes desk request answer later = Handles (held g desk) (held g later) request answer
+  -- what a desk responds to a message
+  abbrev pub goes : Desk S → Inquiry → List ℕ → Said → Desk S → Type 0
+  goes = ByRequests (handles g)
+
+  -- and a machine
+  abbrev Alone : State → Inquiry → List ℕ → Said → State → Type 0
+  Alone = ByRequests Goes
 
   held_same : (now later : Desk S) → later ≡ now → held g later ≡ held g now
   held_same now later same = rw same refl
 
-  responds : (now later : Desk S) (what : Inquiry) (said : Said) → Responds goes now what said later
+  responds : (now later : Desk S) (what : Inquiry) (said : Said)
+      → Responds (handles g) now what said later
       → Follows (held g now) (held g later) (λ s end. Responds Goes s what said end)
   responds now later asked.NoRoute said (same, is) = same_desk _ _ _ (held_same now later same)
       (λ s. (refl, is))
@@ -87,19 +90,21 @@ module _ {S : Type 0} (g : store.Ghosts S) where
       same_desk _ _ _ (held_same now later same) (λ s. (refl, is))
   responds now later asked.BadForm said (same, is) = same_desk _ _ _ (held_same now later same)
       (λ s. (refl, is))
-  responds now later (asked.Asks format request) said (answer, handles, is) =
+  responds now later asked.Commands said (same, is) = same_desk _ _ _ (held_same now later same)
+      (λ s. (refl, is))
+  responds now later (asked.Asks format request) said (answer, handled, is) =
       record {
-        honest = handles.honest;
-        opens = handles.opens;
+        honest = handled.honest;
+        opens = handled.opens;
         follows = λ clean s keeps.
-            let (end, step, kept) = handles.answered clean s keeps in
+            let (end, step, kept) = handled.answered clean s keeps in
             (end, (answer, step, is), kept);
-        shut = λ clean closed s. (answer, inr (handles.shut clean closed, refl), is);
+        shut = λ clean closed s. (answer, inr (handled.shut clean closed, refl), is);
       }
 
   one_answer : (before : ℕ) (now later : Desk S) (message : Message) (text : List ℕ)
       → IsAnswer goes before now message text later
-      → Follows (held g now) (held g later) (λ s end. IsAnswer Goes before s message text end)
+      → Follows (held g now) (held g later) (λ s end. IsAnswer Alone before s message text end)
   one_answer before now later message text answer =
       let what = asked_of message.head.method message.head.target message.body in
       weaker _ _ (λ s end. Responds Goes s what answer.said end) _
@@ -111,24 +116,20 @@ module _ {S : Type 0} (g : store.Ghosts S) where
       → AnsweredBy (held g start) (held g later) messages text
   all_answers start _ _ _ none = same_desk _ _ _ refl (λ s. none)
   all_answers start _ _ _ (more before said now message answer later first last) =
-      both _ (held g now) _ (λ s m. Answers Goes s before said m)
-      (λ m end. IsAnswer Goes (length before) m message answer end) _
+      both _ (held g now) _ (λ s m. Answers Alone s before said m)
+      (λ m end. IsAnswer Alone (length before) m message answer end) _
       (all_answers start now before said first)
       (one_answer (length before) now later message answer last)
       (λ s m end one other. more before said m message answer end one other)
 
-  -- no message was answered
-  pub answers_none : (desk : Desk S) → AnsweredBy (held g desk) (held g desk) [] []
-  answers_none desk = all_answers desk desk [] [] none
-
   breaks_off : (before : ℕ) (rest part : List ℕ) (cause : Cause) (now later : Desk S)
       → BreaksOff goes before rest now later part cause
-      → Follows (held g now) (held g later) (λ s end. BreaksOff Goes before rest s end part cause)
+      → Follows (held g now) (held g later) (λ s end. BreaksOff Alone before rest s end part cause)
   breaks_off before rest _ _ now later (unasked cause same) =
       same_desk _ _ _ (held_same now later same) (λ s. unasked cause refl)
   breaks_off before rest _ _ now later
       (in_answer message after part others cause unread is begins answer) =
-      weaker _ _ (λ s end. IsAnswer Goes before s message (part ++ others) end) _
+      weaker _ _ (λ s end. IsAnswer Alone before s message (part ++ others) end) _
       (one_answer before now later message (part ++ others) answer)
       (λ s end one. in_answer message after part others cause unread is begins one)
   breaks_off before rest _ _ now later
@@ -140,8 +141,8 @@ module _ {S : Type 0} (g : store.Ghosts S) where
       (cause : Cause) → Broken goes start later messages text rest part cause
       → BrokenBy (held g start) (held g later) messages text rest part cause
   all_broken start later messages text rest part cause (now, answers, breaks) =
-      both _ (held g now) _ (λ s m. Answers Goes s messages text m)
-      (λ m end. BreaksOff Goes (length messages) rest m end part cause) _
+      both _ (held g now) _ (λ s m. Answers Alone s messages text m)
+      (λ m end. BreaksOff Alone (length messages) rest m end part cause) _
       (all_answers start now messages text answers)
       (breaks_off (length messages) rest part cause now later breaks)
       (λ s m end one other. (m, one, other))

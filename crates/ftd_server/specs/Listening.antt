@@ -80,13 +80,13 @@ IsAnnounced (Err stop.Output) before after failed =
     (port : ℕ) × WritesPrefix before after (listening_line port) × (failed ≡ true)
 
 module _ {D : Type 0} (serve : D → Outcome → D → Type 0) (ask : D → Bool → D → Type 0) where
-  -- one connection, and then the question whether the desk still answers
+  -- one connection, and then the question whether what serves it still answers
   pub record IsTurn (before : D) (turn : Turn) (after : D) : Type 0 where
     pub between : D
     pub served : serve before turn.outcome between
     pub asked : ask between turn.answers after
 
-  -- connections one after the other, each but the first after one after which the desk answered
+  -- connections one after the other, each but the first after one after which it answered
   pub data Takes (start : D) : List Turn → D → Type 0 where
     none : Takes start [] start
     more : (turns : List Turn) (now : D) (turn : Turn) (after : D)

@@ -41,12 +41,17 @@ abbrev pub answered : Format → Answer → Said
 answered format (Ok reply) = replied format reply
 answered format (Err refusal) = refused refusal
 
--- The response to what is asked of a machine: where nothing is asked of it, it stays as it is.
--- `goes` has the machine, a request, its answer, and the machine after it.
+-- The response of a machine that answers requests alone to what is asked: where no request is asked
+-- of it, it stays as it is. `goes` has the machine, a request, its answer, and the machine after it.
 module _ {M : Type 0} (goes : M → Request → Answer → M → Type 0) where
   abbrev pub Responds : M → Inquiry → Said → M → Type 0
   Responds now asked.NoRoute said later = (later ≡ now) × (said ≡ bare status.NotFound)
   Responds now (asked.OtherMethod allow) said later = (later ≡ now) × (said ≡ other_method allow)
   Responds now asked.BadForm said later = (later ≡ now) × (said ≡ bare status.BadRequest)
+  Responds now asked.Commands said later = (later ≡ now) × (said ≡ bare status.NotFound)
   Responds now (asked.Asks format request) said later =
       (answer : Answer) × goes now request answer later × (said ≡ answered format answer)
+
+  -- the same of a message, whatever its body is
+  abbrev pub ByRequests : M → Inquiry → List ℕ → Said → M → Type 0
+  ByRequests now asked body said later = Responds now asked said later

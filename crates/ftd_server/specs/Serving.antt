@@ -6,11 +6,9 @@ use Rattle.ftd_server.specs.declared.connection.TheConstants.{MOST_MESSAGES}
 use Rattle.ftd_http.specs.Messages.{Message, IsMessage, message_bytes, AreMessages, closes}
 use Rattle.ftd_http.specs.Messages.{IsRefused, IsCut}
 use Rattle.ftd_http.specs.declared.status.Status.{Status}
-use Rattle.ftd_machine.specs.declared.requests.Request.{Request}
-use Rattle.ftd_machine.specs.Checks.{Answer}
+use Rattle.ftd_http.specs.declared.ask.Inquiry.{Inquiry}
 use Rattle.ftd_server.specs.Responses.{Said, bare, response_text}
 use Rattle.ftd_http.specs.Asking.{asked_of}
-use Rattle.ftd_server.specs.Replying.{Responds}
 use Rattle.ftd_server.specs.declared.connection.End.{End}
 use Rattle.ftd_server.specs.declared.connection.End.TheVariants as end
 use Rattle.ftd_server.specs.declared.connection.Cause.{Cause}
@@ -54,13 +52,14 @@ abbrev pub refusal_count : Option Status → ℕ
 refusal_count None = 0
 refusal_count (Some status) = 1
 
-module _ {M : Type 0} (goes : M → Request → Answer → M → Type 0) where
+-- `goes` has the machine, what a message asks, its body, the response, and the machine after it
+module _ {M : Type 0} (goes : M → Inquiry → List ℕ → Said → M → Type 0) where
   -- a message that comes after so many others, its answer, and the machine before and after it
   pub record IsAnswer (before : ℕ) (now : M) (message : Message) (text : List ℕ)
       (later : M) : Type 0 where
     pub said : Said
-    pub responds : Responds goes now
-        (asked_of message.head.method message.head.target message.body) said later
+    pub responds : goes now (asked_of message.head.method message.head.target message.body)
+        message.body said later
     pub is : text ≡ response_text said (closes_after before message)
 
   -- messages one after the other, the text of their answers, and the machine after them
@@ -146,7 +145,7 @@ pub record Breaks (broken : List Message → List ℕ → List ℕ → List ℕ 
   pub written : Appends taken taken' (text ++ part)
   pub count : fault.answered ≡ length messages
 
-module _ {M : Type 0} (goes : M → Request → Answer → M → Type 0) where
+module _ {M : Type 0} (goes : M → Inquiry → List ℕ → Said → M → Type 0) where
   -- so far: so many messages of the bytes read are answered, after none of which the connection
   -- closes, and `kept` is what stands after them
   pub record Talk (start now : M) (left left' taken taken' : Option (List ℕ)) (kept : List ℕ)

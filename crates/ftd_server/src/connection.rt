@@ -12,8 +12,7 @@ ghost use Rattle.ftd_server.specs.Serving.{Answered, Broken, ServesMessages, Bre
 ghost use Rattle.ftd_server.specs.Serving.{IsAnswer, BreaksOff, HasFailed, refusal_text};
 
 use crate::machine::Machine;
-use crate::respond::respond;
-use crate::response::{bare, write_response};
+use crate::response::{bare_response, write_response};
 use ftd_http::{Next, Parts, Peer, ReadFault, Status, make_router, next_message, what_is_asked};
 use ftd_ports::{Target, WriteFault};
 use ftd_verbs::Verb;
@@ -172,7 +171,7 @@ fn refuse<W: Target>(alloc: Global, target: &mut W, status: Status) -> Result<()
     ensures { Writes result (W.taken target.old) (W.taken target.new)
         (W.failed target.new) (refusal_text (Some status)) }
 {
-    write_response(alloc, target, &bare(alloc, status), true)
+    write_response(alloc, target, &bare_response(alloc, status), true)
 }
 
 /// Answers the message at the front of the buffer, after so many others.
@@ -196,16 +195,17 @@ fn answer<By, M: Machine<By>, W: Target>(
         × Appends (W.taken target.old) (W.taken target.new) part) }
     ensures fault { IfErr result (λ cause. HasFailed cause false (W.failed target.new)) }
 {
+    let body = &buf[parts.body..parts.end];
     let Ok(asked) = what_is_asked(
         alloc,
         router,
         parts.method.of(buf),
         parts.target.of(buf),
-        &buf[parts.body..parts.end],
+        body,
     ) else {
         return Err(Cause::Memory);
     };
-    let Ok(response) = respond(alloc, machine, &asked) else {
+    let Ok(response) = machine.respond(alloc, &asked, body) else {
         return Err(Cause::Memory);
     };
     match write_response(

@@ -1,4 +1,4 @@
-//! Connections over anything that answers requests: messages of HTTP and their answers; streams
+//! Connections over anything that answers messages: messages of HTTP and their answers; streams
 //! with limits of time; and what a server tells.
 //! Connections over the desk, and those of a listener, taken one after the other.
 #![tactic(auto)]
@@ -25,8 +25,10 @@ pub use crate::closing::end;
 pub use crate::connection::{Cause, End, ServeFault, ServedConnection, serve_machine};
 pub use crate::lines::tell_outcome;
 pub use crate::machine::Machine;
-pub use crate::office::serve;
+pub use crate::office::{ByTables, serve, still_answers};
 pub use crate::outcome::{Outcome, Turn};
+pub use crate::respond::desk_response;
+pub use crate::response::{Content, Response, bare_response, json_response};
 pub use crate::serving::{Limits, serve_on};
 pub use crate::stop::Stop;
 pub use crate::timed::{TimedStream, Timer};

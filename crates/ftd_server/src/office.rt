@@ -1,31 +1,65 @@
 //! Connections over the desk.
 
-ghost use Rattle.std.specs.Prelude.{IfOk, IfErr};
+ghost use Rattle.std.specs.Prelude.{◌≡◌, IfOk, IfErr};
 ghost use Rattle.ftd_desk.specs.Desks.{held};
 ghost use Rattle.ftd_server.specs.Serving.{ServesMessages, Breaks};
 ghost use Rattle.ftd_server.specs.Tables.{AnsweredBy, BrokenBy};
+ghost use Rattle.ftd_server.specs.Turns.{asks, is_lost};
 
-use crate::{Machine, ServeFault, ServedConnection, serve_machine};
+use crate::respond::desk_response;
+use crate::{Machine, Response, ServeFault, ServedConnection, serve_machine};
+use ftd_days::Day;
 use ftd_desk::Desk;
-use ftd_http::Peer;
-use ftd_machine::{Answer, Request};
+use ftd_http::{Inquiry, Peer};
+use ftd_machine::{AccountName, Answer, Question, Refusal, Request};
 use ftd_ports::Target;
 use sqlite::Alter;
-use std::alloc::Global;
+use std::alloc::{AllocError, Global};
 
 /// The way in which a desk answers: by its tables.
 pub struct ByTables;
 
 impl<S: Alter> Machine<ByTables> for Desk<S> {
-    ghost use Rattle.ftd_desk.specs.Desks.{held};
-    ghost use Rattle.ftd_desk.specs.Words.{Handles};
+    ghost use Rattle.ftd_server.specs.Replying.{ByRequests};
+    ghost use Rattle.ftd_server.specs.Tables.{handles};
+    ghost use Rattle.ftd_server.specs.Turns.{asks};
 
-    ghost goes = { λ desk request answer later.
-        Handles (held S.Store desk) (held S.Store later) request answer };
+    ghost goes = { ByRequests (handles S.Store) };
 
-    fn answer(&mut self, request: &Request) -> Answer {
-        self.handle(request)
+    ghost stays = { asks S.Store };
+
+    fn respond(
+        &mut self,
+        alloc: Global,
+        asked: &Inquiry,
+        _body: &[u8],
+    ) -> Result<Response, AllocError> {
+        desk_response(alloc, self, asked)
     }
+
+    fn still_answers(&mut self, alloc: Global) -> bool {
+        still_answers(alloc, self)
+    }
+}
+
+/// Whether the desk still answers: it is asked for the schedule of no account, and its store does
+/// not fail.
+pub fn still_answers<S: Alter>(alloc: Global, desk: &mut Desk<S>) -> bool
+    ensures { asks S.Store desk.old result desk.new }
+{
+    let question = Request::Question(Question::Status {
+        account: AccountName::from_string(String::new(alloc)),
+        day: Day::first_of_month(0),
+    });
+    let answer = desk.handle(&question);
+    !is_lost(&answer)
+}
+
+/// Whether the store of the desk that answered failed.
+fn is_lost(answer: &Answer) -> bool
+    ensures { result ≡ is_lost answer.now }
+{
+    matches!(answer, Err(Refusal::Store))
 }
 
 /// Serves one connection: reads messages from the source, has the desk answer each, and writes the

@@ -13,11 +13,11 @@ pub enum Outcome {
     Failed(Cause),
 }
 
-/// One connection, and the desk after it.
+/// One connection, and what answers its messages after it.
 #[derive(Clone, Copy, Debug, PartialEq, Eq)]
 pub struct Turn {
     /// What became of the connection.
     pub outcome: Outcome,
-    /// Whether the desk still answers: it was asked a question, and its store did not fail.
+    /// Whether that still answers.
     pub answers: bool,
 }

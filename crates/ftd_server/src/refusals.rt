@@ -6,7 +6,7 @@ ghost use Rattle.ftd_days.specs.Text.{quarter_text};
 ghost use Rattle.ftd_server.specs.Responses.{said_of};
 ghost use Rattle.ftd_server.specs.Refusals.{name_fields, refused, refusal_fields, refusal_status};
 
-use crate::response::{Response, json, object_text};
+use crate::response::{Response, json_response, object_text};
 use ftd_answers::Value;
 use ftd_days::Quarter;
 use ftd_http::Status;
@@ -19,7 +19,7 @@ pub fn refusal_response(alloc: Global, refusal: &Refusal) -> Result<Response, Al
     ensures { IfOk result (λ response. said_of response ≡ refused refusal.now) }
 {
     let text = refusal_text(alloc, refusal)?;
-    Ok(json(refusal_status(refusal), text))
+    Ok(json_response(refusal_status(refusal), text))
 }
 
 /// A refusal as JSON: the year, the quarter or the number that it names, if it names one, its name

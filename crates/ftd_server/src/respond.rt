@@ -4,33 +4,37 @@ ghost use Rattle.std.specs.Prelude.{◌≡◌, ◌⊎◌, IfOk, OnErr};
 ghost use Rattle.ftd_server.specs.Refusals.{refused};
 ghost use Rattle.ftd_server.specs.Replying.{Responds, answered, named, posted, replied};
 ghost use Rattle.ftd_server.specs.Responses.{Said, said_of};
+ghost use Rattle.ftd_server.specs.Tables.{handles};
 
 use crate::facts::facts_said;
-use crate::machine::Machine;
 use crate::refusals::refusal_response;
-use crate::response::{Response, bare, json, object_text, other_method};
+use crate::response::{Response, bare_response, json_response, object_text, other_method};
 use ftd_answers::{Format, Value};
+use ftd_desk::Desk;
 use ftd_http::{Inquiry, Status};
 use ftd_machine::{Answer, Difference, Reply, is_bounded};
+use sqlite::Alter;
 use std::alloc::{AllocError, Global};
 
-/// The response to what is asked. Where there is no memory for it, the machine may have answered.
-pub fn respond<By, M: Machine<By>>(
+/// The response of a desk to what is asked. A desk alone answers requests, and no commands. Where
+/// there is no memory for the response, the desk may have answered.
+pub fn desk_response<S: Alter>(
     alloc: Global,
-    machine: &mut M,
+    desk: &mut Desk<S>,
     asked: &Inquiry,
 ) -> Result<Response, AllocError>
-    ensures ok { IfOk result
-        (λ response. Responds M.goes machine.old asked.now (said_of response) machine.new) }
-    ensures err { OnErr result ((machine.new ≡ machine.old)
-        ⊎ ((said : Said) × Responds M.goes machine.old asked.now said machine.new)) }
+    ensures ok { IfOk result (λ response.
+        Responds (handles S.Store) desk.old asked.now (said_of response) desk.new) }
+    ensures err { OnErr result ((desk.new ≡ desk.old)
+        ⊎ ((said : Said) × Responds (handles S.Store) desk.old asked.now said desk.new)) }
 {
     match asked {
-        Inquiry::NoRoute => Ok(bare(alloc, Status::NotFound)),
+        Inquiry::NoRoute => Ok(bare_response(alloc, Status::NotFound)),
         Inquiry::OtherMethod(allow) => Ok(other_method(alloc, *allow)),
-        Inquiry::BadForm => Ok(bare(alloc, Status::BadRequest)),
+        Inquiry::BadForm => Ok(bare_response(alloc, Status::BadRequest)),
+        Inquiry::Commands => Ok(bare_response(alloc, Status::NotFound)),
         Inquiry::Asks { format, request } => {
-            let answer = machine.answer(request);
+            let answer = desk.handle(request);
             answered(alloc, *format, &answer)
         }
     }
@@ -67,7 +71,7 @@ fn named(alloc: Global, reply: &str) -> Result<Response, AllocError>
     ensures { IfOk result (λ response. said_of response ≡ named reply.now) }
 {
     let text = object_text(alloc, &[("reply", Value::Text(reply))])?;
-    Ok(json(Status::Okay, text))
+    Ok(json_response(Status::Okay, text))
 }
 
 /// The response with how many obligations were removed and added, and their days.
@@ -81,5 +85,5 @@ fn posted(alloc: Global, difference: &Difference) -> Result<Response, AllocError
         ("reply", Value::Text("posted")),
         ("to", Value::Day(difference.to)),
     ];
-    Ok(json(Status::Okay, object_text(alloc, &fields)?))
+    Ok(json_response(Status::Okay, object_text(alloc, &fields)?))
 }

@@ -44,7 +44,7 @@ pub struct Response {
 }
 
 /// A response without a body.
-pub fn bare(alloc: Global, status: Status) -> Response
+pub fn bare_response(alloc: Global, status: Status) -> Response
     ensures { said_of result ≡ bare status }
 {
     Response {
@@ -68,7 +68,7 @@ pub fn other_method(alloc: Global, allow: Method) -> Response
 }
 
 /// A response with a JSON body.
-pub fn json(status: Status, body: Vec<u8>) -> Response
+pub fn json_response(status: Status, body: Vec<u8>) -> Response
     ensures { said_of result ≡ json status body.items }
 {
     Response {

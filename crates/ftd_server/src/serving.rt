@@ -1,21 +1,15 @@
 //! A listener's connections, served one after the other.
 
-ghost use Rattle.std.specs.Prelude.{◌≡◌, ◌<◌, ◌≤◌, Result};
-ghost use Rattle.ftd_desk.specs.Desks.{held};
+ghost use Rattle.std.specs.Prelude.{◌<◌, ◌≤◌, Result};
 ghost use Rattle.ftd_ports.specs.declared.writing.WriteFault.{WriteFault};
 ghost use Rattle.ftd_server.specs.Listening.{HasTaken, IsTurn, outcome_of};
-ghost use Rattle.ftd_server.specs.Turns.{IsServed, asks, is_lost, serves};
+ghost use Rattle.ftd_server.specs.Turns.{IsServed};
 
-use crate::office::serve;
 use crate::{
-    Cause, End, Outcome, ServedConnection, TimedStream, Timer, Turn, Wire, end, tell_outcome,
+    Cause, End, Machine, Outcome, ServedConnection, TimedStream, Timer, Turn, Wire, end,
+    serve_machine, tell_outcome,
 };
-use ftd_days::Day;
-use ftd_desk::Desk;
-use ftd_machine::{AccountName, Answer, Question, Refusal, Request};
 use ftd_ports::{Port, Target};
-use sqlite::Alter;
-use std::alloc::Global;
 use std::net::{TcpListener, TcpStream};
 use std::thread;
 use std::time::{Clock, Duration};
@@ -40,13 +34,13 @@ fn seconds(count: u32) -> Duration {
 
 /// Serves one connection. A peer that is silent inside a message, or takes nothing, or goes on for
 /// too long ends it as a failed read or write; one that is idle between two messages ends it.
-fn serve_one<S: Alter, R: Clock + AllocGlobal>(
+fn serve_one<By, M: Machine<By>, R: Clock + AllocGlobal>(
     rt: &R,
     stream: &TcpStream,
     limits: Limits,
-    desk: &mut Desk<S>,
+    machine: &mut M,
 ) -> Result<(), Cause>
-    ensures { IsServed (held S.Store desk.old) (held S.Store desk.new) (outcome_of result) }
+    ensures { IsServed M.goes machine.old (outcome_of result) machine.new }
 {
     // Where the system sets no limit on waiting, the connection is served without one.
     let _ = stream.set_write_timeout(Some(seconds(limits.silence)));
@@ -60,7 +54,7 @@ fn serve_one<S: Alter, R: Clock + AllocGlobal>(
         seconds(limits.silence),
     );
     let mut target = Port::new(TimedStream::new(&timer, stream));
-    match serve(rt.alloc(), desk, &mut source, &mut target) {
+    match serve_machine(rt.alloc(), machine, &mut source, &mut target) {
         Ok(served) => {
             if is_ended_here(served) {
                 end(rt, stream);
@@ -78,80 +72,60 @@ fn is_ended_here(served: ServedConnection) -> bool {
 
 /// Takes a connection, and serves it. After an error of the listener it waits for a tenth of a
 /// second, so that one that lasts does not keep the processor busy.
-fn take_one<S: Alter, R: Clock + AllocGlobal>(
+fn take_one<By, M: Machine<By>, R: Clock + AllocGlobal>(
     rt: &R,
     listener: &TcpListener,
     limits: Limits,
-    desk: &mut Desk<S>,
+    machine: &mut M,
 ) -> Outcome
-    ensures { IsServed (held S.Store desk.old) (held S.Store desk.new) result }
+    ensures { IsServed M.goes machine.old result machine.new }
 {
     let Ok((stream, _)) = listener.accept() else {
         let _ = thread::sleep(rt, Duration::from_millis(100));
         return Outcome::Missed;
     };
-    match serve_one(rt, &stream, limits, desk) {
+    match serve_one(rt, &stream, limits, machine) {
         Ok(()) => Outcome::Served,
         Err(cause) => Outcome::Failed(cause),
     }
 }
 
-/// Whether the desk still answers: it is asked for the schedule of no account, and its store does
-/// not fail.
-fn still_answers<S: Alter>(alloc: Global, desk: &mut Desk<S>) -> bool
-    ensures { asks S.Store desk.old result desk.new }
-{
-    let question = Request::Question(Question::Status {
-        account: AccountName::from_string(String::new(alloc)),
-        day: Day::first_of_month(0),
-    });
-    let answer = desk.handle(&question);
-    !is_lost(&answer)
-}
-
-/// Whether the store of the desk that answered failed.
-fn is_lost(answer: &Answer) -> bool
-    ensures { result ≡ is_lost answer.now }
-{
-    matches!(answer, Err(Refusal::Store))
-}
-
-/// Takes a connection, serves it, and sees whether the desk still answers.
-fn take_turn<S: Alter, R: Clock + AllocGlobal>(
+/// Takes a connection, serves it, and sees whether the machine still answers.
+fn take_turn<By, M: Machine<By>, R: Clock + AllocGlobal>(
     rt: &R,
     listener: &TcpListener,
     limits: Limits,
-    desk: &mut Desk<S>,
+    machine: &mut M,
 ) -> Turn
-    ensures { IsTurn (serves S.Store) (asks S.Store) desk.old result desk.new }
+    ensures { IsTurn (IsServed M.goes) M.stays machine.old result machine.new }
 {
-    let outcome = take_one(rt, listener, limits, desk);
-    let answers = still_answers(rt.alloc(), desk);
+    let outcome = take_one(rt, listener, limits, machine);
+    let answers = machine.still_answers(rt.alloc());
     Turn { outcome, answers }
 }
 
-/// Takes connections, one after the other, which the desk serves, after so many others were taken,
-/// until all are taken, or the desk does not answer any more, since its store failed. Answers how
-/// many were taken in all. One that fails, or that the listener does not give, is told on `err`,
-/// and the next one is taken. Where `err` fails, nothing more is told on it, and serving goes on.
-pub fn serve_on<S: Alter, R: Clock + AllocGlobal, Err: Target>(
+/// Takes connections, one after the other, whose messages the machine answers, after so many others
+/// were taken, until all are taken, or it does not answer any more. Answers how many were taken in
+/// all. One that fails, or that the listener does not give, is told on `err`, and the next one is
+/// taken. Where `err` fails, nothing more is told on it, and serving goes on.
+pub fn serve_on<By, M: Machine<By>, R: Clock + AllocGlobal, Err: Target>(
     rt: &R,
     listener: &TcpListener,
     limits: Limits,
     taken: u32,
-    desk: &mut Desk<S>,
+    machine: &mut M,
     err: &mut Err,
 ) -> u32
     requires { taken ≤ limits.connections }
     ensures takes { (told : Result (Unit {0}) WriteFault)
-        × HasTaken (serves S.Store) (asks S.Store) desk.old desk.new told
+        × HasTaken (IsServed M.goes) M.stays machine.old machine.new told
         (Err.taken err.old) (Err.taken err.new) (Err.failed err.new) taken result }
     ensures most { result ≤ limits.connections }
     ensures some { taken < limits.connections → taken < result }
 {
     let mut told = Ok(());
     for number in taken..limits.connections {
-        let turn = take_turn(rt, listener, limits, desk);
+        let turn = take_turn(rt, listener, limits, machine);
         told = tell_outcome(told, number + 1, turn.outcome, err);
         if !turn.answers {
             return number + 1;

@@ -17,14 +17,14 @@ pub returns-in_default-respond-clause-err : goal.returns-in_default-respond-clau
 returns-in_default-respond-clause-err g c = λ message at.
     let is = rw (c.of.ensures, c.of-2.ensures) at c.in-Ok.ensures in
     lost_answer g.M.Machine.goes c.args.answered c.args.buf.now c.args.parts.now message
-    c.in-Ok.asked c.args.machine.now c.respond.new.machine (g.W.Target.taken c.args.target.now) at
+    c.in-Ok.asked c.args.machine.now c.respond.new.self (g.W.Target.taken c.args.target.now) at
     is c.in_default-respond.ensures.err
 
 pub returns-clause-err : goal.returns-clause-err
 returns-clause-err g c = λ message at.
     let is = rw (c.of.ensures, c.of-2.ensures) at c.in-Ok.ensures in
     half_answer g.M.Machine.goes c.args.answered c.args.buf.now c.args.parts.now message
-    c.in-Ok.asked c.args.machine.now c.respond.new.machine (said_of c.in-Ok-respond.response)
+    c.in-Ok.asked c.args.machine.now c.respond.new.self (said_of c.in-Ok-respond.response)
     c.closes_after.result (g.W.Target.taken c.args.target.now)
     (g.W.Target.taken c.write_response.new.target) at is c.closes_after.ensures
     c.in-Ok-respond.ensures.ok c.in-Err.ensures.err

@@ -36,6 +36,7 @@ returns-in-Err g c =
           line = c.end_unread.ensures.line;
         });
       };
+      stays = so_far.3;
     }
 
 pub returns-in-End : goal.returns-in-End
@@ -49,6 +50,7 @@ returns-in-End g c =
         begins = begins so_far.0 _ _ so_far.5;
         ends = whole refl (ended so_far.0 _ _ _ so_far.5 (rw c.in-End.is at c.in-Ok.ensures.known));
       };
+      stays = so_far.3;
     }
 
 pub returns-then-is_last : goal.returns-then-is_last
@@ -70,6 +72,7 @@ returns-then-is_last g c =
             (left_more so_far.0 _ _ _ piece so_far.5 c.in-Ok.ensures.known);
         ends = last refl (sym c.is_last.ensures ∙ c.if-is_last.true);
       };
+      stays = c.answer_next-end.ensures.stays ∙ so_far.3;
     }
 
 pub returns : goal.returns
@@ -83,4 +86,5 @@ returns g c =
         begins = begins so_far.0 _ _ so_far.5;
         ends = full refl (omega (arith, so_far.1, c.loop-number-test.false));
       };
+      stays = so_far.3;
     }

@@ -1,7 +1,7 @@
 use Rattle.std.proofs.Common.{refl, inr}
 use Rattle.std.specs.Prelude.{Result, Ok, Err, IfOk, OnErr}
 use Rattle.ftd_server.specs.Replying.{answered}
-use Rattle.ftd_server.proofs.respond.respond.Goals as goal
+use Rattle.ftd_server.proofs.respond.desk_response.Goals as goal
 
 -- what holds in any case holds at an error
 on_err : {T E P : Type 0} (result : Result T E) → P → OnErr result P
@@ -12,8 +12,8 @@ pub returns-in-Asks-clause-err : goal.returns-in-Asks-clause-err
 returns-in-Asks-clause-err g c =
     on_err c.answered.result
     (inr (
-      answered c.in-Asks.format c.answer-answer.result,
-      rw c.in-Asks.is (c.answer-answer.result, c.answer-answer.ensures, refl),
+      answered c.in-Asks.format c.handle-answer.result,
+      rw c.in-Asks.is (c.handle-answer.result, c.handle-answer.ensures.handles, refl),
     ))
 
 -- what follows from the value of an Ok
@@ -25,5 +25,5 @@ if_ok (Err e) to fact = fact
 pub returns-in-Asks-clause-ok : goal.returns-in-Asks-clause-ok
 returns-in-Asks-clause-ok g c =
     if_ok c.answered.result
-    (λ response said. rw c.in-Asks.is (c.answer-answer.result, c.answer-answer.ensures, said))
+    (λ response said. rw c.in-Asks.is (c.handle-answer.result, c.handle-answer.ensures.handles, said))
     c.answered.ensures

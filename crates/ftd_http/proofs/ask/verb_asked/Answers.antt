@@ -1,7 +1,7 @@
 use Rattle.std.proofs.Common.{None, sym, ap, ◌∙◌}
 use Rattle.ftd_verbs.specs.Rows.{VerbRow}
 use Rattle.ftd_http.proofs.AskFacts.{no_text, by_route, wrong_method, right_method}
-use Rattle.ftd_http.proofs.ask.what_is_asked.Goals as goal
+use Rattle.ftd_http.proofs.ask.verb_asked.Goals as goal
 
 pub returns-in_default : goal.returns-in_default
 returns-in_default c = no_text c.args.method.now c.args.target.now c.args.body.now

@@ -1,0 +1,130 @@
+//! The shell of a server.
+
+ghost use Rattle.std.specs.Prelude.{◌≡◌, IfOk, OnErr};
+ghost use Rattle.std.specs.String.{string_bytes};
+ghost use Rattle.ftd_server.specs.Responses.{Said, said_of};
+ghost use Rattle.ftd.specs.Commands.{AnswersBody, RespondsToBody, file_of};
+
+use crate::commands::body::BodyLines;
+use crate::commands::written::written_response;
+use ftd_cli::DayClock;
+use ftd_desk::Desk;
+use ftd_http::Inquiry;
+use ftd_ports::Port;
+use ftd_program::{Inputs, JobEnd, Shell, Shows};
+use ftd_server::{Machine, Response, desk_response, still_answers};
+use sqlite::Alter;
+use std::alloc::{AllocError, Global};
+
+/// The shell of a server over a desk in this file. It does no imports, so that of what is around it
+/// the clock alone is asked.
+pub(crate) fn server_shell<S: Alter, F>(
+    alloc: Global,
+    db: String,
+    desk: Desk<S>,
+    inputs: F,
+) -> Shell<S, F>
+    ensures desk { result.desk ≡ desk }
+    ensures file { file_of result ≡ string_bytes db }
+{
+    Shell {
+        alloc,
+        db,
+        desk,
+        inputs,
+        does_imports: false,
+        shows: Shows {
+            commands: false,
+            lines: false,
+        },
+    }
+}
+
+/// The desk of a shell that serves no more.
+pub(crate) fn server_desk<S: Alter, F: Drop>(shell: Shell<S, F>) -> Desk<S>
+    ensures { result ≡ shell.desk }
+{
+    let Shell {
+        desk,
+        alloc: _,
+        db: _,
+        inputs: _,
+        does_imports: _,
+        shows: _,
+    } = shell;
+    desk
+}
+
+/// Answers the commands of a body, one a line, as a shell does, and writes the answers to memory.
+fn answer_body<S: Alter, F: Inputs + DayClock>(
+    alloc: Global,
+    shell: &mut Shell<S, F>,
+    body: &[u8],
+) -> JobEnd<Port<Vec<u8>>, Port<Vec<u8>>>
+    ensures answers { AnswersBody S.Store shell.old.desk shell.new.desk (file_of shell.old)
+        body.now result }
+    ensures file { file_of shell.new ≡ file_of shell.old }
+{
+    shell.does_imports = false;
+    shell.shows = Shows {
+        commands: false,
+        lines: false,
+    };
+    let mut script = BodyLines {
+        alloc,
+        left: body,
+        has_failed: false,
+    };
+    let out = Port::new(Vec::new(alloc));
+    let err = Port::new(Vec::new(alloc));
+    shell.answer_script(&mut script, false, out, err)
+}
+
+/// The response to the commands of a body. Where there is no memory for it, they were answered all
+/// the same.
+fn body_response<S: Alter, F: Inputs + DayClock>(
+    alloc: Global,
+    shell: &mut Shell<S, F>,
+    body: &[u8],
+) -> Result<Response, AllocError>
+    ensures ok { IfOk result (λ response. RespondsToBody S.Store shell.old.desk shell.new.desk
+        (file_of shell.old) body.now (said_of response)) }
+    ensures err { OnErr result ((said : Said) × RespondsToBody S.Store shell.old.desk
+        shell.new.desk (file_of shell.old) body.now said) }
+    ensures file { file_of shell.new ≡ file_of shell.old }
+{
+    let end = answer_body(alloc, shell, body);
+    written_response(
+        alloc,
+        &end.out.into_inner(),
+        &end.err.into_inner(),
+        end.status,
+    )
+}
+
+/// The way in which a shell answers messages: commands itself, and requests by its desk.
+pub(crate) struct ByShell;
+
+impl<S: Alter, F: Inputs + DayClock> Machine<ByShell> for Shell<S, F> {
+    ghost use Rattle.ftd.specs.Commands.{AsksDesk, Responds};
+
+    ghost goes = { Responds S.Store };
+
+    ghost stays = { AsksDesk S.Store };
+
+    fn respond(
+        &mut self,
+        alloc: Global,
+        asked: &Inquiry,
+        body: &[u8],
+    ) -> Result<Response, AllocError> {
+        match asked {
+            Inquiry::Commands => body_response(alloc, self, body),
+            _ => desk_response(alloc, &mut self.desk, asked),
+        }
+    }
+
+    fn still_answers(&mut self, alloc: Global) -> bool {
+        still_answers(alloc, &mut self.desk)
+    }
+}
