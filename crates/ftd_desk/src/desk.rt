@@ -12,6 +12,7 @@ ghost use Rattle.ftd_desk.specs.Words.{Handles, RepairsRows, HandlesAll};
 mod listing;
 mod mending;
 mod opening;
+mod reading;
 mod telling;
 
 use crate::bounds::bounded;

@@ -6,6 +6,7 @@ mod books;
 mod bounds;
 mod counts;
 mod desk;
+mod journals;
 mod kept;
 mod known;
 pub mod laws;

@@ -26,7 +26,7 @@ module _ {X : Type 0} (before : X → X → Bool) where
   put_is x [] = IsPermutation-refl (x ∷ [])
   put_is x (y ∷ ys) = put_at x y ys (before x y) (put_is x ys)
 
-  ordered_is : (xs : List X) → IsPermutation xs (in_order before xs)
+  pub ordered_is : (xs : List X) → IsPermutation xs (in_order before xs)
   ordered_is [] = IsPermutation-refl []
   ordered_is (x ∷ xs) =
       IsPermutation-trans (x ∷ xs) (x ∷ in_order before xs) (put_in before x (in_order before xs))

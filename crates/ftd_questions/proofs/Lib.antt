@@ -6,7 +6,7 @@ mod DueListed
 mod FirstYears
 mod FoundRows
 mod DueTold
-mod Dropped
+pub mod Dropped
 pub mod RowsTold
 mod Unreported
 mod Passed

@@ -1,0 +1,14 @@
+mod Orders
+mod OwnEntries
+mod ByKey
+mod PartsAdded
+mod EntriesKnown
+mod TotalsKnown
+mod OwnKnown
+mod YearByYear
+mod YearsOfDays
+mod DaysKnown
+mod WordsOn
+pub mod ByName
+mod Equal
+pub mod Whole
