@@ -19,7 +19,8 @@ pub(crate) enum Beginning {
     Needs,
 }
 
-/// What a job does about a file that is not there. A trial of an import makes none.
+/// What a job does about a file that is not there. A trial of an import makes none, nor do the
+/// years of all accounts, of which a new desk has none, nor does a journal.
 pub(crate) fn of_job(job: &Job) -> Beginning
     ensures { result ≡ beginning_of job.now }
 {
@@ -30,6 +31,7 @@ pub(crate) fn of_job(job: &Job) -> Beginning
             ..
         } => of_import(*sheet, *is_trial),
         Job::Ask { request, .. } | Job::AskNext { request } => of_request(request),
+        Job::OpenYears { .. } | Job::Journal { .. } => Beginning::Needs,
     }
 }
 

@@ -84,8 +84,8 @@ fn serve_again<D: Disk + Drop>(
     Ok(taken)
 }
 
-/// Closes the files of a shell's desk. `NotClosed` if they can't be and are not opened again, by which what
-/// is in the log would be found.
+/// Closes the files of a shell's desk. `NotClosed` if they can't be and are not opened again, by
+/// which what is in the log would be found.
 fn closed_after<D: Disk + Drop>(
     shell: Shell<FileStore<D>, Around<'_>>,
     is_last: bool,
@@ -102,8 +102,8 @@ fn is_announced(rt: &HostRuntime, listener: &TcpListener) -> bool {
     announce(listener, &mut out, &mut err).is_ok()
 }
 
-/// Serves connections after so many others, until all are served or the shell's desk does not answer
-/// any more, and answers how many were taken in all.
+/// Serves connections after so many others, until all are served or the shell's desk does not
+/// answer any more, and answers how many were taken in all.
 fn serve_until<S: Alter>(
     rt: &HostRuntime,
     task: &ServeTask,

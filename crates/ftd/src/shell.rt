@@ -155,14 +155,20 @@ fn over_lines<R: BufRead + Drop>(
 
 /// Answers the lines of standard input.
 fn over_standard_input(rt: &HostRuntime, task: &ShellTask) -> Result<u8, ProgramFault> {
+    let has_prompt = rt.stdin().is_terminal();
     let lines = Lines {
         rt,
         reader: rt.reader(),
         name: "standard input",
-        has_prompt: rt.stdin().is_terminal(),
+        has_prompt,
         has_failed: false,
     };
-    over_lines(rt, task, lines)
+    let done = over_lines(rt, task, lines);
+    if has_prompt {
+        // No line follows the last prompt.
+        let _ = eprint!(rt; "\n");
+    }
+    done
 }
 
 /// Answers the lines of a file.

@@ -28,7 +28,7 @@ pub use crate::agendas::form_bytes;
 pub use crate::due_lists::due_list;
 pub use crate::due_texts::{DueText, UnwrittenText};
 pub use crate::facts::write_facts;
-pub use crate::fields::{Value, write_object};
+pub use crate::fields::{Value, write_object, write_plain};
 pub use crate::formats::{Format, ListFormat};
 pub use crate::liability_by_day::schedule_b;
 pub use crate::rows::{RowFormat, write_rows};

@@ -2,7 +2,7 @@
 use Rattle.std.specs.Prelude.{ℕ, ◌≡◌, ◌||◌, ◌&&◌, nat_lt, Bool, List, Option, Result, Ok, Err, ⊤}
 use Rattle.std.specs.Prelude.{if◌then◌else◌}
 use Rattle.std.specs.Option.{is_none}
-use Rattle.clap.specs.Words.{Row, Text}
+use Rattle.clap.specs.Words.{Row, Text, first_of}
 use Rattle.ftd_days.specs.declared.limits.TheConstants.{FIRST_YEAR, LAST_OPEN_YEAR}
 use Rattle.ftd_csv.specs.declared.sheets.Sheet.{Sheet}
 use Rattle.ftd_machine.specs.declared.requests.Request.{Request}
@@ -16,6 +16,7 @@ use Rattle.ftd_cli.specs.declared.fault.WordFault.TheVariants as fault
 use Rattle.ftd_cli.specs.declared.table.Name.{Name}
 use Rattle.ftd_cli.specs.declared.table.Name.TheVariants as name
 use Rattle.ftd_cli.specs.declared.table.Word.TheVariants as word
+use Rattle.ftd_cli.specs.Table.{word_text}
 use Rattle.ftd_cli.specs.Values.{days_in, format_in, is_given, port_in, text_in, whole_in}
 use Rattle.ftd_cli.specs.Words.{request_of, value_of}
 
@@ -36,15 +37,18 @@ abbrev pub Tells : {X : Type 0} → Result X WordFault → Result X WordFault �
 Tells {X} read said = TellsAs (λ (x : X). x) read said
 
 -- what a subcommand asks: the deposits of pay runs from standard input; or a server, a shell, an
--- import of a sheet, in earnest or on trial, or a request to the desk in a database, for which so
--- many seconds are waited. A correction with no number is to be asked under the next one: it is
--- asked under the greatest, to which the desk answers how many there are (NumberSkipped), unless it
+-- import of a sheet, in earnest or on trial, a year of each account that has the year before open,
+-- the journal of all or of one account, or a request to the desk in a database, for which so many
+-- seconds are waited. A correction with no number is to be asked under the next one: it is asked
+-- under the greatest, to which the desk answers how many there are (NumberSkipped), unless it
 -- answers otherwise, and then under one more than these (`with_number` of `ftd_machine`).
 pub data Wanted : Type 0 where
   plain : (account : Text) (year : ℕ) (holidays : List ℕ) → Wanted
   serve : (db : Text) (wait port connections idle silence duration : ℕ) → Wanted
   shell : (db : Text) (wait : ℕ) (script : Text) (has_echo has_stop : Bool) → Wanted
   import : (db : Text) (wait : ℕ) (sheet : Sheet) (is_trial : Bool) (file : Text) → Wanted
+  open_years : (db : Text) (wait year : ℕ) → Wanted
+  journal : (db : Text) (wait : ℕ) (account : Option Text) → Wanted
   ask : (db : Text) (wait : ℕ) (format : Format) (request : Request) → Wanted
   ask_next : (db : Text) (wait : ℕ) (request : Request) → Wanted
 
@@ -94,6 +98,20 @@ import_of sheet rows =
     then_with (text_in word.CsvFile rows) (λ file.
     Ok (import db wait sheet (is_given word.Check rows) file))))
 
+-- the year is as that of a request that opens one
+unfoldable pub open_years_of : List Row → Result Wanted WordFault
+open_years_of rows =
+    then_with (whole_in (word.Field field.Year) rows) (λ year.
+    then_with (text_in word.Db rows) (λ db.
+    then_with (whole_in word.Wait rows) (λ wait.
+    Ok (open_years db wait year))))
+
+unfoldable pub journal_of : List Row → Result Wanted WordFault
+journal_of rows =
+    then_with (text_in word.Db rows) (λ db.
+    then_with (whole_in word.Wait rows) (λ wait.
+    Ok (journal db wait (first_of (word_text word.JournalAccount) rows))))
+
 -- a request to the desk in the database: a correction with no number under the next one, any other
 -- in the format that is asked for
 abbrev pub asked_as : List Row → Format → Request → Result Wanted WordFault
@@ -122,5 +140,7 @@ wanted_of today name.Plain rows = plain_of rows
 wanted_of today name.Serve rows = serve_of rows
 wanted_of today name.Shell rows = shell_of rows
 wanted_of today (name.Import sheet) rows = import_of sheet rows
+wanted_of today name.OpenYears rows = open_years_of rows
+wanted_of today name.Journal rows = journal_of rows
 wanted_of today (name.Verb verb) rows =
     then_with (request_of today verb rows) (asked_by verb rows)

@@ -31,7 +31,9 @@ abbrev pub name_text : Name → List ℕ
 name_text name.Plain = codes "plain"
 name_text name.Serve = codes "serve"
 name_text name.Shell = codes "shell"
+name_text name.Journal = codes "journal"
 name_text (name.Import sheet) = sheet_text sheet
+name_text name.OpenYears = codes "open-years"
 name_text (name.Verb verb) = (row_of verb).command
 
 -- the words of a verb but for its fields: a format is asked for where there are several
@@ -49,7 +51,9 @@ words_of name.Serve =
     ∷ []
 words_of name.Shell =
     word.Db ∷ word.Wait ∷ word.Echo ∷ word.Stop ∷ word.Script ∷ []
+words_of name.Journal = word.Db ∷ word.Wait ∷ word.JournalAccount ∷ []
 words_of (name.Import sheet) = word.Db ∷ word.Wait ∷ word.Check ∷ word.CsvFile ∷ []
+words_of name.OpenYears = word.Db ∷ word.Wait ∷ word.Field field.Year ∷ []
 words_of (name.Verb verb) = words_with (row_of verb).formats
 
 -- every command but one takes the file of a desk
@@ -104,6 +108,7 @@ word_text word.Check = codes "check"
 word_text word.Script = codes "SCRIPT"
 word_text word.Echo = codes "echo"
 word_text word.Stop = codes "stop"
+word_text word.JournalAccount = codes "ACCOUNT"
 word_text word.Holidays = codes "HOLIDAY"
 word_text (word.Format formats) = codes "format"
 word_text (word.Field at) = field_text at
@@ -120,6 +125,7 @@ abbrev pub is_option : Word → Bool
 is_option word.CsvFile = false
 is_option word.Script = false
 is_option word.Holidays = false
+is_option word.JournalAccount = false
 is_option (word.Field at) = is_kind_option (kind_of at)
 is_option other = true
 
@@ -162,6 +168,7 @@ takes_of word.Check = takes.Nothing
 takes_of word.Echo = takes.Nothing
 takes_of word.Stop = takes.Nothing
 takes_of word.Script = takes.Script
+takes_of word.JournalAccount = takes.Optional
 takes_of word.Holidays = takes.Texts
 takes_of (word.Format formats) = takes.Format
 takes_of (word.Field at) = kind_takes (kind_of at)
@@ -179,6 +186,7 @@ all_names =
     ∷ name.Verb verb.Report
     ∷ name.Verb verb.ReportYear
     ∷ name.Verb verb.OpenYear
+    ∷ name.OpenYears
     ∷ name.Verb verb.Post
     ∷ name.Import sheet.Accounts
     ∷ name.Import sheet.Totals
@@ -205,6 +213,7 @@ all_names =
     ∷ name.Verb verb.CorrectReportYear
     ∷ name.Verb verb.CorrectAccount
     ∷ name.Verb verb.ChangeHoliday
+    ∷ name.Journal
     ∷ name.Shell
     ∷ name.Plain
     ∷ name.Serve ∷ []

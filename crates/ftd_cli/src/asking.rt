@@ -1,12 +1,15 @@
 //! What a subcommand asks, with its values. Each function reads them in their order, and answers
 //! the first word that has none of its kind.
 
-ghost use Rattle.std.specs.Prelude.{◌≡◌};
-ghost use Rattle.clap.specs.Words.{found_of, rows_of};
-ghost use Rattle.ftd_cli.specs.Asking.{Tells, TellsAs, account_in, asked_by, import_of, plain_of};
-ghost use Rattle.ftd_cli.specs.Asking.{serve_of, shell_of, wanted_of, year_in};
+ghost use Rattle.std.specs.Prelude.{◌≡◌, Ok};
+ghost use Rattle.clap.specs.Words.{first_of, found_of, rows_of};
+ghost use Rattle.ftd_cli.specs.Asking.{Tells, TellsAs, account_in, asked_by, import_of};
+ghost use Rattle.ftd_cli.specs.Asking.{journal_of, open_years_of, plain_of, serve_of, shell_of};
+ghost use Rattle.ftd_cli.specs.Asking.{wanted_of, year_in};
+ghost use Rattle.ftd_cli.specs.Table.{word_text};
 ghost use Rattle.ftd_cli.specs.Tasks.{task_view, in_database};
 ghost use Rattle.ftd_cli.specs.Words.{request_of};
+ghost use Rattle.ftd_cli.specs.declared.table.Word.TheVariants.{JournalAccount};
 
 use crate::fault::WordFault;
 use crate::reading::{days_at, format_at, is_given, owned_text, port_at, text_at, whole_at};
@@ -130,6 +133,34 @@ fn in_database(alloc: Global, inner: &ArgMatches<'_>, job: Job) -> Result<Task, 
     Ok(Task::Local(LocalTask { db, wait, job }))
 }
 
+/// What opening a year of each account asks.
+#[tactic(auto, unfolding(crate::specs::Asking::open_years_of))]
+fn open_years(alloc: Global, inner: &ArgMatches<'_>) -> Result<Task, WordFault>
+    ensures { TellsAs task_view result (open_years_of (rows_of (found_of inner.now))) }
+{
+    let year = whole_at(inner, Word::Field(Field::Year))?;
+    in_database(alloc, inner, Job::OpenYears { year })
+}
+
+/// The account whose journal is asked for; none where that of all is.
+fn journal_account(alloc: Global, inner: &ArgMatches<'_>) -> Result<Option<AccountName>, WordFault>
+    ensures { Tells result (Ok (first_of (word_text JournalAccount) (rows_of (found_of inner.now)))) }
+{
+    match text_at(inner, Word::JournalAccount) {
+        Some(text) => Ok(Some(AccountName::from_string(String::from_str(alloc, text)?))),
+        None => Ok(None),
+    }
+}
+
+/// What a journal asks.
+#[tactic(auto, unfolding(crate::specs::Asking::journal_of))]
+fn journal(alloc: Global, inner: &ArgMatches<'_>) -> Result<Task, WordFault>
+    ensures { TellsAs task_view result (journal_of (rows_of (found_of inner.now))) }
+{
+    let account = journal_account(alloc, inner)?;
+    in_database(alloc, inner, Job::Journal { account })
+}
+
 /// What a verb asks by these words on this day.
 fn request(
     alloc: Global,
@@ -179,6 +210,8 @@ pub fn task_for(
         Name::Serve => serve(alloc, inner),
         Name::Shell => shell(alloc, inner),
         Name::Import(sheet) => import(alloc, sheet, inner),
+        Name::OpenYears => open_years(alloc, inner),
+        Name::Journal => journal(alloc, inner),
         Name::Verb(verb) => asked(alloc, verb, inner, request(alloc, today, verb, inner)?),
     }
 }

@@ -12,7 +12,7 @@ use clap::{Arg, ArgAction, Command};
 use ftd_verbs::Field;
 use std::alloc::{AllocError, Global};
 
-/// What the desk is for, and how its commands are told. The whole help has 44 lines.
+/// What the desk is for, and how its commands are told. The whole help has 46 lines.
 const ABOUT: &str =
     "Federal tax deposits by Pub. 15, section 11. ftd COMMAND --help has an example.";
 

@@ -34,6 +34,9 @@ const CORRECT_ACCOUNT: &str = "Example: ftd correct-account --db office.db elm 2
 const SHELL: &str = "Example: ftd shell --db office.db commands.txt\n\
     A line is a command without ftd and --db: post elm 1 2024-05-08 20000.00 16000.00 4000.00";
 
+const JOURNAL: &str = "Example: ftd journal --db office.db > journal.txt\n\
+    ftd shell --db new.db journal.txt makes the same desk of it.";
+
 impl Name {
     /// What help says of it, in a line.
     pub fn about<'a>(self) -> &'a str {
@@ -41,7 +44,9 @@ impl Name {
             Name::Plain => "Print the deposits of pay runs from CSV; keeps nothing",
             Name::Serve => "Answer HTTP requests on 127.0.0.1",
             Name::Shell => "Answer commands, a line each; the file is opened once",
+            Name::Journal => "Print the commands that make the same desk, or account",
             Name::Import(sheet) => sheet_about(sheet),
+            Name::OpenYears => "Open a year of each account whose year before is open",
             Name::Verb(verb) => verb_about(verb),
         }
     }
@@ -52,7 +57,9 @@ impl Name {
             Name::Plain => "Example: ftd plain elm 2024 2024-05-27 2024-07-04 < runs.csv",
             Name::Serve => "Example: ftd serve --db office.db --port 8080 --connections 1000",
             Name::Shell => SHELL,
+            Name::Journal => JOURNAL,
             Name::Import(sheet) => sheet_example(sheet),
+            Name::OpenYears => "Example: ftd open-years --db office.db 2025",
             Name::Verb(verb) => verb_example(verb),
         }
     }
@@ -174,6 +181,7 @@ impl Word {
             Word::Script => "The file of the commands; - is standard input",
             Word::Echo => "Print each command before its answer",
             Word::Stop => "Stop at the first command that is not answered",
+            Word::JournalAccount => "The account; all of the desk if it is left out",
             Word::Holidays => "Legal holidays of the year and the next, YYYY-MM-DD, ascending",
             Word::Format(formats) => formats_help(formats),
             Word::Field(field) => field_help(field),

@@ -33,7 +33,7 @@ fn fault_from(e: Error) -> ParseFault
 }
 
 /// The command line that reads the words: with the subcommand alone that they name, since the whole
-/// one is 34 times as long to make, and reads them alike. The whole one if they name none.
+/// one is 36 times as long to make, and reads them alike. The whole one if they name none.
 fn command_for<'a>(alloc: Global, words: &[String]) -> Result<Command<'a>, AllocError>
     ensures app { IfOk result (λ c. ReadsAsWhole (app_of c) (map string_bytes words.now)) }
     ensures local { IfOk result (λ c. (out-Command c).has_globals ≡ false) }

@@ -8,8 +8,8 @@ ghost use Rattle.ftd_cli.specs.Table.{name_text, sheet_text, takes_file, takes_m
 ghost use Rattle.ftd_cli.specs.Table.{word_text, words_of, words_with};
 
 use Word::{
-    Check, Connections, CsvFile, Db, Duration, Echo, Holidays, Idle, Port, Script, Silence, Stop,
-    Wait,
+    Check, Connections, CsvFile, Db, Duration, Echo, Holidays, Idle, JournalAccount, Port, Script,
+    Silence, Stop, Wait,
 };
 use ftd_csv::Sheet;
 use ftd_verbs::{Field, Formats, Kind, Verb};
@@ -54,8 +54,12 @@ pub enum Name {
     Serve,
     /// The commands of a script are answered.
     Shell,
+    /// The commands that make the same desk are printed.
+    Journal,
     /// A sheet of CSV is imported.
     Import(Sheet),
+    /// A year is opened of each account that has the year before open.
+    OpenYears,
     /// A request to the desk.
     Verb(Verb),
 }
@@ -87,6 +91,8 @@ pub enum Word {
     Echo,
     /// The first line that is not answered is the last.
     Stop,
+    /// The account whose journal is asked for.
+    JournalAccount,
     /// The holidays for `plain`.
     Holidays,
     /// The format of the answer, one of these.
@@ -136,7 +142,9 @@ impl Name {
             Name::Plain => "plain",
             Name::Serve => "serve",
             Name::Shell => "shell",
+            Name::Journal => "journal",
             Name::Import(sheet) => sheet_text(sheet),
+            Name::OpenYears => "open-years",
             Name::Verb(verb) => verb_text(verb),
         }
     }
@@ -160,7 +168,9 @@ impl Name {
             ],
             Name::Serve => &[Db, Wait, Port, Connections, Idle, Silence, Duration],
             Name::Shell => &[Db, Wait, Echo, Stop, Script],
+            Name::Journal => &[Db, Wait, JournalAccount],
             Name::Import(_) => &[Db, Wait, Check, CsvFile],
+            Name::OpenYears => &[Db, Wait, Word::Field(Field::Year)],
             Name::Verb(verb) => words_with(verb.row().formats),
         }
     }
@@ -253,6 +263,7 @@ impl Word {
             Word::Script => "SCRIPT",
             Word::Echo => "echo",
             Word::Stop => "stop",
+            Word::JournalAccount => "ACCOUNT",
             Word::Holidays => "HOLIDAY",
             Word::Format(_) => "format",
             Word::Field(field) => field_text(field),
@@ -264,7 +275,7 @@ impl Word {
         ensures { result ≡ is_option self }
     {
         match self {
-            Word::CsvFile | Word::Script | Word::Holidays => false,
+            Word::CsvFile | Word::Script | Word::Holidays | Word::JournalAccount => false,
             Word::Field(field) => is_kind_option(field.kind()),
             _ => true,
         }
@@ -284,6 +295,7 @@ impl Word {
             Word::Duration => Takes::Duration,
             Word::Check | Word::Echo | Word::Stop => Takes::Nothing,
             Word::Script => Takes::Script,
+            Word::JournalAccount => Takes::Optional,
             Word::Holidays => Takes::Texts,
             Word::Format(_) => Takes::Format,
             Word::Field(field) => kind_takes(field.kind()),
@@ -318,12 +330,13 @@ const LAST_PORT: i64 = 65_535;
 const MOST_CONNECTIONS: i64 = 1_000_000;
 
 /// The subcommands, as help lists them: in the order in which an employer needs them.
-pub const NAMES: [Name; 34] = [
+pub const NAMES: [Name; 36] = [
     Name::Verb(Verb::Calendar),
     Name::Verb(Verb::Enrol),
     Name::Verb(Verb::Report),
     Name::Verb(Verb::ReportYear),
     Name::Verb(Verb::OpenYear),
+    Name::OpenYears,
     Name::Verb(Verb::Post),
     Name::Import(Sheet::Accounts),
     Name::Import(Sheet::Totals),
@@ -350,6 +363,7 @@ pub const NAMES: [Name; 34] = [
     Name::Verb(Verb::CorrectReportYear),
     Name::Verb(Verb::CorrectAccount),
     Name::Verb(Verb::ChangeHoliday),
+    Name::Journal,
     Name::Shell,
     Name::Plain,
     Name::Serve,

@@ -42,6 +42,15 @@ pub enum Job {
     AskNext {
         request: Request,
     },
+    /// The year is opened of each account that has the year before open, one after the other, by
+    /// name.
+    OpenYears {
+        year: u32,
+    },
+    /// The journal of the desk, or of this account: the commands that make the same one.
+    Journal {
+        account: Option<AccountName>,
+    },
 }
 
 /// A job, and the file of the desk's database.

@@ -15,8 +15,11 @@ mod DueFacts
 mod Mended
 mod FaultLines
 mod Numbered
+mod OpenYears
+mod YearEnds
 mod RecordFacts
 mod Puts
+mod Journaled
 mod PlainFields
 mod RecordText
 mod PrintedDays

@@ -15,6 +15,9 @@ pub mod Differences
 pub mod Mending
 pub mod Numbering
 pub mod Performing
+pub mod OpenYears
+pub mod Journals
+pub mod Doing
 pub mod PlainLines
 pub mod RecordNotes
 pub mod Shells

@@ -34,8 +34,6 @@ use Rattle.ftd_program.specs.declared.summary.StopCause.{StopCause}
 use Rattle.ftd_program.specs.declared.summary.ImportStop.{ImportStop}
 use Rattle.ftd_program.specs.declared.summary.Summary.{Summary}
 use Rattle.ftd_verbs.specs.Asked.{greatest_number}
-use Rattle.ftd_cli.specs.declared.tasks.Job.{Job}
-use Rattle.ftd_cli.specs.declared.tasks.Job.TheVariants as job
 use Rattle.ftd_csv.specs.Hints.{record_hints}
 use Rattle.ftd_replies.specs.Below.{below_text}
 use Rattle.ftd_replies.specs.Hints.{told_text}
@@ -329,11 +327,3 @@ module _ {S O E : Type 0} (g : store.Ghosts S) (o_taken : O → Option (List ℕ
         (λ end. FailsTrial kind text end)
     pub stands : StandsAsBefore (held g old) (held g between)
     pub prints : PrintsImport between new kind text trial
-
-  -- the job of a task was done, with the desk of this file
-  abbrev pub Does : Desk S → Desk S → List ℕ → List ℕ → Job → Type 0
-  Does old new input db (job.Import kind file false) = PerformsImport old new kind input
-  Does old new input db (job.Import kind file true) = PerformsTrial old new kind input
-  Does old new input db (job.Ask format request) =
-      Asks g o_taken o_failed e_taken e_failed out err p old new db format request
-  Does old new input db (job.AskNext request) = AsksNext old new db request

@@ -22,7 +22,8 @@ use Rattle.ftd_cli.specs.declared.tasks.Task.{Task}
 use Rattle.ftd_cli.specs.declared.tasks.Task.TheVariants as task
 use Rattle.ftd_replies.specs.Putting.{IsPut}
 use Rattle.ftd_replies.specs.Telling.{Tells}
-use Rattle.ftd_program.specs.Performing.{Does, FailsOutput}
+use Rattle.ftd_program.specs.Doing.{Does}
+use Rattle.ftd_program.specs.Performing.{FailsOutput}
 use Rattle.ftd_program.specs.declared.performing.JobEnd.{JobEnd}
 use Rattle.ftd_program.specs.declared.shell.Shell.{Shell}
 use Rattle.ftd_program.specs.declared.shell.Shows.{Shows}

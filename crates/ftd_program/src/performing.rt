@@ -3,7 +3,8 @@
 ghost use Rattle.std.specs.Prelude.{◌≡◌, IfOk, MatchBool, codes};
 ghost use Rattle.ftd_desk.specs.Desks.{held};
 ghost use Rattle.ftd_answers.specs.Formats.{list_format};
-ghost use Rattle.ftd_program.specs.Performing.{Asks, AsksDue, Does, Performs, PerformsDue};
+ghost use Rattle.ftd_program.specs.Doing.{Does};
+ghost use Rattle.ftd_program.specs.Performing.{Asks, AsksDue, Performs, PerformsDue};
 ghost use Rattle.ftd_program.specs.Performing.{PrintsAnswer};
 ghost use Rattle.ftd_program.specs.Performing.{PerformsImport, PerformsTrial, PrintsRefusal};
 ghost use Rattle.ftd_program.specs.Performing.{PrintsReply, PrintsStop, PrintsSummary};
@@ -18,9 +19,11 @@ ghost use Rattle.ftd_replies.specs.Replies.{reply_text};
 ghost use Rattle.ftd_program.specs.Summaries.{stop_status, stop_text, summary_status};
 
 use crate::added_notes::put_added;
+use crate::journal::journal;
 use crate::mending::{known_for, or_nothing};
 use crate::noting::answer_then_note;
 use crate::numbering::ask_next;
+use crate::open_years::open_years;
 use crate::record_notes::put_refusals;
 use crate::summaries::{write_bad_header, write_summary};
 use crate::{ImportStop, Progress, StopCause, Summary, import, import_trial};
@@ -46,11 +49,12 @@ pub struct JobEnd<O, E> {
 }
 
 /// Does the job of a task, with the desk of this file: asks its request of the desk, or a
-/// correction under the next number, or imports the entries of the input, CSV with the header of
-/// their sheet, or tells what an import would say of them. What came of it goes to `out`, and the
-/// line of a refusal or of a fault to `err`. What the desk took stands, also where `out` fails: the
-/// status is 3 then, and a prefix of the text was written. `progress` is told how far an import is,
-/// and its end before anything is printed.
+/// correction under the next number, or opens a year of each account that has the year before open,
+/// or prints a journal, or imports the entries of the input, CSV with the header of their sheet, or tells what an import
+/// would say of them. What came of it goes to `out`, and the line of a refusal or of a fault to
+/// `err`. What the desk took stands, also where `out` fails: the status is 3 then, and a prefix of
+/// the text was written. `progress` is told how far an import is, and its end before anything is
+/// printed.
 pub fn perform<S: Alter, O: Target, E: Target, P: Progress>(
     alloc: Global,
     db: &str,
@@ -72,6 +76,8 @@ pub fn perform<S: Alter, O: Target, E: Target, P: Progress>(
         } => import_or_try(alloc, desk, sheet, is_trial, input, out, err, progress),
         Job::Ask { format, request } => ask(desk, db, format, request, out, err),
         Job::AskNext { request } => ask_next(desk, db, request, out, err),
+        Job::OpenYears { year } => open_years(alloc, desk, db, year, out, err),
+        Job::Journal { account } => journal(desk, db, account, out, err),
     }
 }
 
@@ -431,7 +437,7 @@ pub(crate) fn fail_output<O, E: Target>(out: O, err: E) -> JobEnd<O, E>
 }
 
 /// Prints the line of the refusal of a request, and its hints.
-fn print_refusal<O: Target, E: Target>(
+pub(crate) fn print_refusal<O: Target, E: Target>(
     db: &str,
     request: &Request,
     refusal: &Refusal,

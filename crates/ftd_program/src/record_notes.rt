@@ -86,7 +86,7 @@ fn entry_difference<S: Alter>(
 }
 
 /// The name once more.
-fn same_name(alloc: Global, name: &AccountName) -> Result<AccountName, Refusal>
+pub(crate) fn same_name(alloc: Global, name: &AccountName) -> Result<AccountName, Refusal>
     ensures same { IfOk result (λ copy. copy ≡ name.now) }
     ensures fault { IfErr result (λ fault. IsFault (Err fault)) }
 {

@@ -8,5 +8,7 @@ pub mod Notes
 pub mod Putting
 pub mod Questions
 pub mod Refusals
+pub mod RequestLines
+pub mod Private
 pub mod Replies
 pub mod Telling

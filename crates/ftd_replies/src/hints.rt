@@ -65,7 +65,7 @@ pub fn write_told<W: Target>(
 /// Writes what can be done about the refusal of a request to the desk of this file: lines that
 /// begin with `hint: `. There is none for want of memory and a fault of the store.
 #[tactic(auto, unfolding(crate::specs::Hints::hints_text))]
-fn write_hints<W: Target>(
+pub fn write_hints<W: Target>(
     db: &str,
     request: &Request,
     refusal: Refusal,

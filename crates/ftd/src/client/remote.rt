@@ -6,7 +6,7 @@ use ftd_files::ProgramFault;
 /// The words of a command line that names a port, of which the first is the program's name.
 #[derive(Clone, Copy)]
 pub(crate) struct Remote<'a> {
-    /// What is given as the port.
+    /// What is given as the port; empty where nothing is.
     pub(crate) port: &'a str,
     /// The words before it, and behind it.
     before: &'a [String],
@@ -18,12 +18,22 @@ fn is_at(word: &str) -> bool {
     word == "--at" || word.starts_with("--at=")
 }
 
+/// Whether a server answers the command: it reads no files, and has no desk but its own.
+fn is_served(name: Name) -> bool {
+    match name {
+        Name::Verb(_) | Name::OpenYears | Name::Journal => true,
+        Name::Plain | Name::Serve | Name::Shell | Name::Import(_) => false,
+    }
+}
+
 /// Whether the words before a port name a command that a server answers.
 fn is_asked(before: &[String]) -> bool {
     let Some(given) = before.get(1) else {
         return false;
     };
-    NAMES.iter().any(|name| matches!(name, Name::Verb(_)) && name.text() == given.as_str())
+    NAMES
+        .iter()
+        .any(|name| is_served(*name) && name.text() == given.as_str())
 }
 
 /// The words, if they name a port for a command that a server answers.
@@ -40,7 +50,7 @@ pub(crate) fn remote_of(words: &[String]) -> Option<Remote<'_>> {
             behind,
         }),
         [word, behind @ ..] => Some(Remote {
-            port: word.strip_prefix("--at=")?,
+            port: word.strip_prefix("--at=").unwrap_or(""),
             before,
             behind,
         }),
