@@ -5,7 +5,7 @@
 
 DESKS desks (200 if none is given) are made of REQUESTS random requests (300 if none is given), corrections too. The journal of each is given to a
 shell over a new file: each line has to be answered as done or posted, the journal of the new file has to be the same bytes, all rows of its tables the
-same, and the journal of each account the lines of the whole one that name it. Then an office of so many accounts with so many runs each (300 and 1,000
+same, and the journal of each account the lines of the whole one that name it. Then an office of so many accounts with so many runs each (100 and 300
 if none is given) is written as a journal and made again: times and greatest memory, beside those of the import of its runs.
 """
 
@@ -126,7 +126,7 @@ def speed(program, folder, accounts, runs):
 
 def main():
     program = program_of(sys.argv[1:2])
-    desks, count, accounts, runs = [*map(int, sys.argv[2:]), *[200, 300, 300, 1_000][len(sys.argv[2:]):]]
+    desks, count, accounts, runs = [*map(int, sys.argv[2:]), *[200, 300, 100, 300][len(sys.argv[2:]):]]
     with tempfile.TemporaryDirectory() as folder:
         lines = sum(compare(program, folder, seed, count) for seed in range(1, desks + 1))
         print(f"{desks} desks, {lines} lines: 0 differences", flush=True)
