@@ -15,7 +15,7 @@ use Rattle.ftd_store.specs.Lists.{Lists, Pairs}
 use Rattle.ftd_machine.specs.Journal.{in_order}
 use Rattle.ftd_machine.specs.Sound.{AreDistinct}
 use Rattle.ftd_machine.proofs.InOrder.{ordered_is}
-use Rattle.ftd_journal.proofs.Orders.{is_before, ordered_rises}
+use Rattle.ftd_machine.proofs.Orders.{is_before, ordered_rises}
 
 -- ---- what was read of rows, each of which is that of one value
 

@@ -22,7 +22,7 @@ use Rattle.ftd_machine.proofs.Members.{enrolled_of, found_some, some_of}
 use Rattle.ftd_machine.proofs.Ordered.{ordered_one}
 use Rattle.ftd_machine.proofs.Soundness.{in_force_some}
 use Rattle.ftd_journal.specs.Parts.{kept_name}
-use Rattle.ftd_journal.proofs.Orders.{ordered_goes, ordered_same}
+use Rattle.ftd_machine.proofs.Orders.{ordered_goes, ordered_same}
 
 -- ---- accounts by name
 

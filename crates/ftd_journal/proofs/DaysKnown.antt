@@ -48,7 +48,7 @@ use Rattle.ftd_journal.specs.Parts.{AddsPart}
 use Rattle.ftd_journal.specs.declared.days.DaysPart.{DaysPart}
 use Rattle.ftd_journal.specs.declared.days.DaysPart.TheVariants.{Calendars, Changes, Holidays}
 use Rattle.ftd_journal.proofs.ByKey.{listed_as, rows_that_pass}
-use Rattle.ftd_journal.proofs.Orders.{ordered_rises}
+use Rattle.ftd_machine.proofs.Orders.{ordered_rises}
 use Rattle.ftd_journal.proofs.PartsAdded.{part_then}
 use Rattle.ftd_journal.proofs.YearByYear.{all_earlier, earlier, none_earlier, of_year}
 use Rattle.ftd_journal.proofs.YearByYear.{one_year_more, ordered_those}

@@ -33,7 +33,7 @@ use Rattle.ftd_entries.proofs.QuarterDays.{days_into}
 use Rattle.ftd_journal.specs.Parts.{KnowsRuns, KnowsPayments, run_number, run_of, payment_number}
 use Rattle.ftd_journal.specs.Parts.{payment_of}
 use Rattle.ftd_journal.proofs.ByKey.{rows_that_pass, sorted_as}
-use Rattle.ftd_journal.proofs.OwnEntries.{key_of_entry, own_apart, same_entry}
+use Rattle.ftd_machine.proofs.SameMembers.{key_of_entry, own_apart, same_entry}
 
 -- ---- days
 

@@ -39,8 +39,10 @@ use Rattle.ftd_machine.proofs.Members.{has_filtered}
 use Rattle.ftd_machine.proofs.Single.{members_one}
 use Rattle.ftd_machine.proofs.Soundness.{nothing_sound, step_sound}
 use Rattle.ftd_journal.proofs.ByName.{accounts_same}
-use Rattle.ftd_journal.proofs.Orders.{ordered_same_by}
-use Rattle.ftd_journal.proofs.OwnEntries.{key_of_entry, own_apart, same_entry}
+use Rattle.ftd_machine.proofs.Keeping.{same_key}
+use Rattle.ftd_machine.proofs.Orders.{ordered_same_by}
+use Rattle.ftd_machine.proofs.SameMembers.{added_day, all_day, entry_has, key_of_entry, own_apart}
+use Rattle.ftd_machine.proofs.SameMembers.{same_back, years_same}
 
 -- ---- what is found
 
@@ -65,81 +67,20 @@ found_as {X} {Y} f test (z ∷ xs) y found =
 
 -- ---- days
 
-any_has : (days : List ℕ) (day : ℕ) → is_holiday days day ≡ true → Has days day
-any_has [] day is = absurd (true≢false (sym is))
-any_has (d ∷ days) day is = elim (cases_Bool (d == day)) [
-  | inl here ↦ inl (sym (eqb-true d day here))
-  | inr off ↦ inr (any_has days day (rw off at is))
-]
-
-eqb_same : (n : ℕ) → (n == n) ≡ true
-eqb_same n = eq-eqb n n refl
-
-has_any : (days : List ℕ) (day : ℕ) → Has days day → is_holiday days day ≡ true
-has_any [] day has = absurd has
-has_any (d ∷ days) day (inl is) =
-    let here : (d == day) ≡ true = subst (λ x. (d == x) ≡ true) (sym is) (eqb_same d) in rw here refl
-has_any (d ∷ days) day (inr there) = elim (cases_Bool (d == day)) [
-  | inl here ↦ rw here refl
-  | inr off ↦ rw off (has_any days day there)
-]
-
-given_has : (cs : List YearDays) (c : YearDays) (day : ℕ) → Has cs c → Has c.days day
-    → Has (holidays_of cs) day
-given_has [] c day has of_it = absurd has
-given_has (x ∷ cs) c day (inl is) of_it =
-    has_left x.days (holidays_of cs) day (subst (λ (y : YearDays). Has y.days day) is of_it)
-given_has (x ∷ cs) c day (inr there) of_it =
-    has_right x.days (holidays_of cs) day (given_has cs c day there of_it)
-
 module _ (s t : State) (sound : IsSound s)
     (same : (year : ℕ) → calendar_at t year ≡ calendar_at s year) where
   calendar_has : (c : YearDays) → Has s.calendars c → Has t.calendars c
   calendar_has c has =
       let there : calendar_at s c.year ≡ Some c.days =
       ap (option_map days_of) (find_one (λ g. g.year == c.year) year_of_calendar s.calendars c
-      sound.calendars has (eqb_same c.year)
+      sound.calendars has (same_key c.year)
       (λ x x_has is. sym (eqb-true x.year c.year is))) in
       let d = found_as days_of (λ g. g.year == c.year) t.calendars c.days (same c.year ∙ there) in
       let is : d.0 ≡ c =
       λ i. record { year = eqb-true d.0.year c.year d.2 i; days = d.3 i } in
       subst (Has t.calendars) is d.1
 
-  given_day : (day : ℕ) → Has (holidays_of s.calendars) day → Has (holidays_of t.calendars) day
-  given_day day has =
-      let c = calendar_with s.calendars day has in
-      given_has t.calendars c.0 day (calendar_has c.0 c.1) c.2
-
-module _ (s t : State) (sound : IsSound s) (same : SameEntries s t) where
-  added_has : (day : ℕ) → Has s.added_days day → Has t.added_days day
-  added_has day has =
-      any_has t.added_days day (same.added_days day ∙ has_any s.added_days day has)
-
-  day_has : (day : ℕ) → Has (all_days s) day → Has (all_days t) day
-  day_has day has = elim (has_append (holidays_of s.calendars) s.added_days day has) [
-    | inl given ↦ has_left (holidays_of t.calendars) t.added_days day
-        (given_day s t sound same.calendars day given)
-    | inr added ↦ has_right (holidays_of t.calendars) t.added_days day (added_has day added)
-  ]
-
 -- ---- entries
-
-module _ {X : Type 0} (name : List ℕ) (xs ys : List (Entry X)) (apart : AreDistinct place_of xs)
-    (same : (key : ℕ) → kept_at key (filter (is_of name) ys) ≡ kept_at key (filter (is_of name) xs))
-  where
-    entry_has : (e : Entry X) → Has (filter (is_of name) xs) e → Has (filter (is_of name) ys) e
-    entry_has e has =
-        let there : kept_at e.key (filter (is_of name) xs) ≡ Some e.content =
-        ap (option_map content_of) (find_one (has_key e.key) key_of_entry
-        (filter (is_of name) xs) e (own_apart name xs apart) has (eqb_same e.key)
-        (λ x x_has is. sym (eqb-true x.key e.key is))) in
-        let d = found_as content_of (has_key e.key) (filter (is_of name) ys) e.content
-        (same e.key ∙ there) in
-        let own : d.0.name ≡ name =
-        same_text d.0.name name (has_filtered (is_of name) ys d.0 d.1).1 in
-        let its : e.name ≡ name = same_text e.name name (has_filtered (is_of name) xs e has).1 in
-        subst (Has (filter (is_of name) ys))
-        (same_entry d.0 e (own ∙ sym its) (eqb-true d.0.key e.key d.2) d.3) d.1
 
 entries_same : {X : Type 0} (name : List ℕ) (xs ys : List (Entry X)) → AreDistinct place_of xs
     → AreDistinct place_of ys
@@ -147,49 +88,8 @@ entries_same : {X : Type 0} (name : List ℕ) (xs ys : List (Entry X)) → AreDi
     → own_by_key name xs ≡ own_by_key name ys
 entries_same name xs ys apart also same =
     ordered_same_by key_of_entry (filter (is_of name) xs) (filter (is_of name) ys)
-    (own_apart name xs apart) (own_apart name ys also) (entry_has name xs ys apart same)
-    (entry_has name ys xs also (λ key. sym (same key)))
-
--- open years rise, as they follow one another
-follow_rise : (e : Entry (Unit {0})) (es : List (Entry (Unit {0})))
-    → FollowFrom e.key (map year_of_entry es) → KeysRise key_of_entry (e ∷ es)
-follow_rise e [] follow = ((λ later has. absurd has), tt)
-follow_rise e (f ∷ es) follow =
-    let rest = follow_rise f es follow.1 in
-    let next = follow.0 in (
-      (λ later has. elim has [
-        | inl is ↦ (let its : later.key ≡ f.key = ap key_of_entry is in omega arith)
-        | inr there ↦ (let more = rest.0 later there in omega arith)
-      ]),
-      rest,
-    )
-
-years_rise : (es : List (Entry (Unit {0}))) → Follow (map year_of_entry es)
-    → KeysRise key_of_entry es
-years_rise [] follow = tt
-years_rise (e ∷ es) follow = follow_rise e es follow
-
-opened_as : (key : ℕ) (es : List (Entry (Unit {0}))) → is_some (kept_at key es) ≡ true
-    → kept_at key es ≡ Some tt
-opened_as key es there = go (kept_at key es) refl there where
-  go : (o : Option (Unit {0})) → kept_at key es ≡ o → is_some o ≡ true → kept_at key es ≡ Some tt
-  go (Some unit) is there = is
-  go None is there = absurd (true≢false (sym there))
-
-opened_off : (key : ℕ) (es : List (Entry (Unit {0}))) → is_some (kept_at key es) ≡ false
-    → kept_at key es ≡ None
-opened_off key es off = go (kept_at key es) refl off where
-  go : (o : Option (Unit {0})) → kept_at key es ≡ o → is_some o ≡ false → kept_at key es ≡ None
-  go None is off = is
-  go (Some unit) is off = absurd (true≢false off)
-
--- a year is kept alike where it is open alike
-opened_alike : (key : ℕ) (xs ys : List (Entry (Unit {0})))
-    → is_some (kept_at key ys) ≡ is_some (kept_at key xs) → kept_at key ys ≡ kept_at key xs
-opened_alike key xs ys same = elim (cases_Bool (is_some (kept_at key xs))) [
-  | inl there ↦ opened_as key ys (same ∙ there) ∙ sym (opened_as key xs there)
-  | inr off ↦ opened_off key ys (same ∙ off) ∙ sym (opened_off key xs off)
-]
+    (own_apart name xs apart) (own_apart name ys also) (entry_has name xs ys apart also same)
+    (entry_has name ys xs also apart (λ key. sym (same key)))
 
 -- ---- the journal of an account
 
@@ -203,19 +103,6 @@ module _ (s t : State) (s_sound : IsSound s) (t_sound : IsSound t) (same : SameE
       ∷ corrections (λ cents. correction.Total e.name (period e.key) cents) later)
       (sym (alike e.name e.key))
 
-  years_same : (name : List ℕ)
-      → filter (is_of name) s.open_years ≡ filter (is_of name) t.open_years
-  years_same name =
-      let its = same.accounts name in
-      let xs = filter (is_of name) s.open_years in
-      let ys = filter (is_of name) t.open_years in
-      members_one key_of_entry xs ys (years_rise xs (s_sound.in_turn name))
-      (years_rise ys (t_sound.in_turn name))
-      (entry_has name s.open_years t.open_years s_sound.open_years
-      (λ key. opened_alike key xs ys (its.open_years key)))
-      (entry_has name t.open_years s.open_years t_sound.open_years
-      (λ key. opened_alike key ys xs (sym (its.open_years key))))
-
   own_same : (e : Enrolled) → account_journal s e ≡ account_journal t e
   own_same e =
       let its = same.accounts e.name in
@@ -228,7 +115,7 @@ module _ (s t : State) (s_sound : IsSound s) (t_sound : IsSound t) (same : SameE
       its.reported in
       let totals = entries_same e.name s.reported_years t.reported_years s_sound.reported_years
       t_sound.reported_years its.reported_years in
-      let opened = years_same e.name in
+      let opened = sym (years_same s t s_sound t_sound same e.name) in
       let runs = entries_same e.name s.runs t.runs s_sound.runs t_sound.runs its.runs in
       let payments = entries_same e.name s.payments t.payments s_sound.payments t_sound.payments
       its.payments in
@@ -252,28 +139,9 @@ module _ (s t : State) (s_sound : IsSound s) (t_sound : IsSound t) (same : SameE
       let is : d.0 ≡ e = λ i. record { name = name i; account = d.3 i } in
       subst (Has b.accounts) is d.1
 
-  turned : SameEntries t s
-  turned = record {
-    calendars = λ year. sym (same.calendars year);
-    added_days = λ day. sym (same.added_days day);
-    changed_days = λ day. sym (same.changed_days day);
-    accounts = λ name.
-        let its = same.accounts name in
-        record {
-          enrolled = sym its.enrolled;
-          moves = sym its.moves;
-          reported = λ key. sym (its.reported key);
-          corrected = λ key. sym (its.corrected key);
-          reported_years = λ key. sym (its.reported_years key);
-          corrected_years = λ key. sym (its.corrected_years key);
-          open_years = λ key. sym (its.open_years key);
-          runs = λ key. sym (its.runs key);
-          payments = λ key. sym (its.payments key);
-        };
-  }
-
   pub journals_equal : journal s ≡ journal t
   journals_equal =
+      let turned = same_back s t same in
       let calendars : in_order is_calendar_before s.calendars
       ≡ in_order is_calendar_before t.calendars =
       ordered_same_by year_of_calendar s.calendars t.calendars s_sound.calendars
@@ -283,10 +151,10 @@ module _ (s t : State) (s_sound : IsSound s) (t_sound : IsSound t) (same : SameE
       ordered_same_by (λ (day : ℕ). day) s.added_days t.added_days
       (once_right (holidays_of s.calendars) s.added_days s_sound.days_once)
       (once_right (holidays_of t.calendars) t.added_days t_sound.days_once)
-      (added_has s t s_sound same) (added_has t s t_sound turned) in
+      (added_day s t s_sound same) (added_day t s t_sound turned) in
       let days : in_order nat_lt (all_days s) ≡ in_order nat_lt (all_days t) =
       ordered_same_by (λ (day : ℕ). day) (all_days s) (all_days t) s_sound.days_once
-      t_sound.days_once (day_has s t s_sound same) (day_has t s t_sound turned) in
+      t_sound.days_once (all_day s t s_sound same) (all_day t s t_sound turned) in
       let changes : (day : ℕ) → day_changes s day ≡ day_changes t day =
       λ day. ap (corrections (λ is_holiday. correction.Holiday day is_holiday))
       (sym (same.changed_days day)) in

@@ -1,5 +1,3 @@
-mod Orders
-mod OwnEntries
 mod ByKey
 mod PartsAdded
 mod EntriesKnown

@@ -29,7 +29,7 @@ use Rattle.ftd_entries.proofs.Corrected.{corrections_known, year_corrections_kno
 use Rattle.ftd_entries.proofs.Kept.{same_nat, cents_is, quarter_is}
 use Rattle.ftd_journal.specs.Parts.{AddsPart, quarter_of, total_requests, year_total_of}
 use Rattle.ftd_journal.proofs.ByKey.{listed_as, rows_that_pass}
-use Rattle.ftd_journal.proofs.OwnEntries.{key_of_entry, own_apart, same_entry}
+use Rattle.ftd_machine.proofs.SameMembers.{key_of_entry, own_apart, same_entry}
 
 -- ---- of quarters
 

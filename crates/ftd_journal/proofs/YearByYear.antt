@@ -13,7 +13,7 @@ use Rattle.ftd_machine.proofs.Found.{filter_all, filter_apart, filter_none}
 use Rattle.ftd_machine.proofs.InOrder.{has_ordered, ordered_has}
 use Rattle.ftd_machine.proofs.Members.{has_filtered}
 use Rattle.ftd_machine.proofs.Single.{members_one}
-use Rattle.ftd_journal.proofs.Orders.{is_before, ordered_rises}
+use Rattle.ftd_machine.proofs.Orders.{is_before, ordered_rises}
 
 module _ {X : Type 0} (year_in : X → ℕ) where
   -- those of earlier years, and those of the year

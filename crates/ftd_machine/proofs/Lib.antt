@@ -61,4 +61,13 @@ pub mod JournalYears
 pub mod JournalEntries
 pub mod JournalAccount
 pub mod JournalMakes
+pub mod Orders
+pub mod SameMembers
+pub mod SameDays
+pub mod Reordered
+pub mod ReorderedTold
+pub mod SameAfter
+pub mod SameTold
+pub mod SameChecks
+pub mod SameStep
 pub mod PaidInTime

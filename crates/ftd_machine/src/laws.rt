@@ -131,6 +131,21 @@ pub fn a_journal_makes_the_same_desk()
         × AreChanges answers × SameEntries s end }
 {}
 
+/// Sound states that have the same entries, in whatever order these were accepted, answer every
+/// request equally, and have the same entries afterwards.
+pub fn same_entries_give_same_answers()
+    // Each answer of one is an answer of the other, and they have the same entries afterwards.
+    ensures each { (s t : State) (request : Request) (answer : Answer) (next : State)
+        → IsSound s → IsSound t → SameEntries s t → Step s request answer next
+        → (after : State) × Step t request answer after × SameEntries next after }
+
+    // So their answers are equal.
+    ensures equal { (s t : State) (request : Request) (answer other : Answer)
+        (next after : State) → IsSound s → IsSound t → SameEntries s t
+        → Step s request answer next → Step t request other after
+        → (answer ≡ other) × SameEntries next after }
+{}
+
 /// What is due over all accounts is all due lists, cut by due date: a row of an account that is
 /// enrolled is one of the agenda exactly where the account's due list of the quarter in which it
 /// begins, as of the day, has it, and it is due on one of the days.

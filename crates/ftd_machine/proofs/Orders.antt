@@ -15,6 +15,7 @@ module _ {X K : Type 0} (before : X → X → Bool) (key : X → K) (R : X → X
     (further : (x y z : X) → R x y → R y z → R x z)
     (yes : (x y : X) → before x y ≡ true → R x y)
     (no : (x y : X) → before x y ≡ false → (key y ≡ key x → ⊥) → R y x) where
+  -- its members are x and those of the list
   has_put : (x : X) (ys : List X) (z : X) → Has (put_in before x ys) z → (z ≡ x) ⊎ Has ys z
   has_put x [] z (inl is) = inl is
   has_put x [] z (inr none) = absurd none
@@ -29,6 +30,7 @@ module _ {X K : Type 0} (before : X → X → Bool) (key : X → K) (R : X → X
         | inr later ↦ inr (inr later)
       ]
 
+  -- what is put into a list in order leaves it in order
   put_goes : (x : X) (ys : List X) → EachToLater R ys
       → ((z : X) → Has ys z → key z ≡ key x → ⊥) → EachToLater R (put_in before x ys)
   put_goes x [] goes apart = ((λ later has. absurd has), tt)
@@ -52,6 +54,7 @@ module _ {X K : Type 0} (before : X → X → Bool) (key : X → K) (R : X → X
         more,
       )
 
+  -- so a list that is put in order is in order
   pub ordered_goes : (xs : List X) → AreDistinct key xs → EachToLater R (in_order before xs)
   ordered_goes [] apart = tt
   ordered_goes (x ∷ xs) apart =
@@ -77,12 +80,15 @@ module _ {X : Type 0} (key : X → ℕ) where
   abbrev IsBefore : X → X → Type 0
   IsBefore a b = key a < key b
 
+  -- one number before a second, and that before a third
   further_on : (x y z : X) → IsBefore x y → IsBefore y z → IsBefore x z
   further_on x y z first second = omega arith
 
+  -- where the test says so, the one comes before the other
   is_less : (x y : X) → is_before x y ≡ true → IsBefore x y
   is_less x y is = ltb-true (key x) (key y) is
 
+  -- and else the other comes before the one, where their keys differ
   is_more : (x y : X) → is_before x y ≡ false → (key y ≡ key x → ⊥) → IsBefore y x
   is_more x y not apart = elim (cases_lt (key y) (key x)) [
     | inl less ↦ less
@@ -92,15 +98,18 @@ module _ {X : Type 0} (key : X → ℕ) where
     ]
   ]
 
+  -- a list in order rises by its key
   rises : (xs : List X) → EachToLater IsBefore xs → KeysRise key xs
   rises [] goes = tt
   rises (x ∷ xs) goes = (goes.0, rises xs goes.1)
 
+  -- so a list that is put in order rises by its key
   pub ordered_rises : (xs : List X) → AreDistinct key xs → KeysRise key (in_order is_before xs)
   ordered_rises xs apart =
       rises (in_order is_before xs)
       (ordered_goes is_before key IsBefore further_on is_less is_more xs apart)
 
+  -- and lists with the same members are the same in order
   pub ordered_same_by : (xs ys : List X) → AreDistinct key xs → AreDistinct key ys
       → ((x : X) → Has xs x → Has ys x) → ((x : X) → Has ys x → Has xs x)
       → in_order is_before xs ≡ in_order is_before ys
