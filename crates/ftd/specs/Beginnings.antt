@@ -44,10 +44,11 @@ beginning_of_request (request.Correct number correction) = Needs
 beginning_of_request (request.Question asked) = beginning_of_question asked
 
 -- a job; a trial of an import makes no file, nor do the years of all accounts, of which a new desk
--- has none, nor does a journal
+-- has none, nor what is due, nor does a journal
 abbrev pub beginning_of : Job → Beginning
 beginning_of (job.Import kind file is_trial) = beginning_of_import kind is_trial
 beginning_of (job.Ask format asked) = beginning_of_request asked
 beginning_of (job.AskNext asked) = beginning_of_request asked
 beginning_of (job.OpenYears year) = Needs
+beginning_of (job.Settle asked) = Needs
 beginning_of (job.Journal account) = Needs

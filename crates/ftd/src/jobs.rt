@@ -24,7 +24,7 @@ pub fn report_fault(rt: &HostRuntime, fault: ProgramFault, db: &str, input: &str
 fn input_of(job: &Job) -> &str {
     match job {
         Job::Import { file, .. } => file,
-        Job::Ask { .. } | Job::AskNext { .. } | Job::OpenYears { .. } | Job::Journal { .. } => "",
+        _ => "",
     }
 }
 
@@ -32,9 +32,7 @@ fn input_of(job: &Job) -> &str {
 fn is_trial(job: &Job) -> bool {
     match job {
         Job::Import { is_trial, .. } => *is_trial,
-        Job::Ask { .. } | Job::AskNext { .. } | Job::OpenYears { .. } | Job::Journal { .. } => {
-            false
-        }
+        _ => false,
     }
 }
 
@@ -127,9 +125,7 @@ fn with_file(
 fn read(rt: &HostRuntime, job: &Job) -> Result<Vec<u8>, ProgramFault> {
     match job {
         Job::Import { file, .. } => import_input(rt, file),
-        Job::Ask { .. } | Job::AskNext { .. } | Job::OpenYears { .. } | Job::Journal { .. } => {
-            Ok(Vec::new(rt.alloc()))
-        }
+        _ => Ok(Vec::new(rt.alloc())),
     }
 }
 

@@ -34,6 +34,7 @@ name_text name.Shell = codes "shell"
 name_text name.Journal = codes "journal"
 name_text (name.Import sheet) = sheet_text sheet
 name_text name.OpenYears = codes "open-years"
+name_text name.Settle = codes "settle"
 name_text (name.Verb verb) = (row_of verb).command
 
 -- the words of a verb but for its fields: a format is asked for where there are several
@@ -54,6 +55,8 @@ words_of name.Shell =
 words_of name.Journal = word.Db ∷ word.Wait ∷ word.JournalAccount ∷ []
 words_of (name.Import sheet) = word.Db ∷ word.Wait ∷ word.Check ∷ word.CsvFile ∷ []
 words_of name.OpenYears = word.Db ∷ word.Wait ∷ word.Field field.Year ∷ []
+words_of name.Settle =
+    word.Db ∷ word.Wait ∷ word.Field field.Account ∷ word.DueDay ∷ word.PaidDay ∷ []
 words_of (name.Verb verb) = words_with (row_of verb).formats
 
 -- every command but one takes the file of a desk
@@ -77,11 +80,13 @@ field_text field.Days = codes "DAY"
 field_text field.Quarter = codes "QUARTER"
 field_text field.Amount = codes "AMOUNT"
 field_text field.Run = codes "RUN"
+field_text field.RunToVoid = codes "RUN"
 field_text field.Payday = codes "PAYDAY"
 field_text field.Fit = codes "FIT"
 field_text field.Ss = codes "SS"
 field_text field.Medicare = codes "MEDICARE"
 field_text field.Payment = codes "PAYMENT"
+field_text field.PaymentToVoid = codes "PAYMENT"
 field_text field.Paid = codes "PAID"
 field_text field.For = codes "FOR"
 field_text field.Number = codes "number"
@@ -109,6 +114,8 @@ word_text word.Script = codes "SCRIPT"
 word_text word.Echo = codes "echo"
 word_text word.Stop = codes "stop"
 word_text word.JournalAccount = codes "ACCOUNT"
+word_text word.DueDay = codes "DUE"
+word_text word.PaidDay = codes "PAID"
 word_text word.Holidays = codes "HOLIDAY"
 word_text (word.Format formats) = codes "format"
 word_text (word.Field at) = field_text at
@@ -126,6 +133,8 @@ is_option word.CsvFile = false
 is_option word.Script = false
 is_option word.Holidays = false
 is_option word.JournalAccount = false
+is_option word.DueDay = false
+is_option word.PaidDay = false
 is_option (word.Field at) = is_kind_option (kind_of at)
 is_option other = true
 
@@ -133,6 +142,7 @@ is_option other = true
 abbrev pub kind_takes : Kind → Takes
 kind_takes kind.Account = takes.Text
 kind_takes kind.Number = takes.Number (pos 0) LARGEST_NUMBER
+kind_takes kind.NewNumber = takes.Text
 kind_takes kind.NumberOrNext = takes.OptionalNumber (pos 0) LARGEST_NUMBER
 kind_takes kind.Year = takes.Number (pos 0) LARGEST_NUMBER
 kind_takes kind.Day = takes.Text
@@ -151,6 +161,7 @@ is_day_or_today kind.DayOrToday = true
 is_day_or_today other = false
 
 abbrev pub may_be_today : Word → Bool
+may_be_today word.PaidDay = true
 may_be_today (word.Field at) = is_day_or_today (kind_of at)
 may_be_today other = false
 
@@ -169,6 +180,8 @@ takes_of word.Echo = takes.Nothing
 takes_of word.Stop = takes.Nothing
 takes_of word.Script = takes.Script
 takes_of word.JournalAccount = takes.Optional
+takes_of word.DueDay = takes.Text
+takes_of word.PaidDay = takes.Optional
 takes_of word.Holidays = takes.Texts
 takes_of (word.Format formats) = takes.Format
 takes_of (word.Field at) = kind_takes (kind_of at)
@@ -196,6 +209,7 @@ all_names =
     ∷ name.Verb verb.Agenda
     ∷ name.Verb verb.Owed
     ∷ name.Verb verb.Pay
+    ∷ name.Settle
     ∷ name.Verb verb.Unapplied
     ∷ name.Verb verb.Status
     ∷ name.Verb verb.Explain

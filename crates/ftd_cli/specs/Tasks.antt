@@ -11,7 +11,7 @@ use Rattle.clap.specs.declared.error.ErrorKind.TheVariants as kind
 use Rattle.ftd_verbs.specs.declared.field.Field.TheVariants as field
 use Rattle.ftd_cli.specs.Apps.{ftd_app}
 use Rattle.ftd_cli.specs.Asking.{Wanted, ask, ask_next, import, journal, open_years, plain, serve}
-use Rattle.ftd_cli.specs.Asking.{shell, then_with, wanted_of}
+use Rattle.ftd_cli.specs.Asking.{settle, shell, then_with, wanted_of}
 use Rattle.ftd_cli.specs.Escapes.{escaped, escaped_word}
 use Rattle.ftd_cli.specs.Table.{all_names, may_be_today, name_text, word_text}
 use Rattle.ftd_cli.specs.Values.{bad_value, text_in, whole_in}
@@ -72,6 +72,7 @@ job_view db wait (job.Import sheet file is_trial) =
 job_view db wait (job.Ask format request) = ask db wait format request
 job_view db wait (job.AskNext request) = ask_next db wait request
 job_view db wait (job.OpenYears year) = open_years db wait year
+job_view db wait (job.Settle asked) = settle db wait asked.account asked.due asked.paid
 job_view db wait (job.Journal account) = journal db wait account
 
 -- the job, with the desk in the database

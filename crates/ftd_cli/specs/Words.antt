@@ -9,11 +9,14 @@ use Rattle.ftd_days.specs.declared.cents.Cents.{Cents}
 use Rattle.ftd_machine.specs.declared.requests.Request.{Request}
 use Rattle.ftd_rules.specs.declared.Form.{Form}
 use Rattle.ftd_rules.specs.declared.Form.TheVariants.{F941, F943}
-use Rattle.ftd_verbs.specs.Asked.{asked}
+use Rattle.ftd_verbs.specs.Asked.{asked, greatest_number}
+use Rattle.ftd_verbs.specs.FieldRows.{kind_of}
 use Rattle.ftd_verbs.specs.Fields.{Said}
 use Rattle.ftd_verbs.specs.declared.field.Field.{Field}
 use Rattle.ftd_verbs.specs.declared.field.FieldFault.{FieldFault}
 use Rattle.ftd_verbs.specs.declared.field.FieldFault.TheVariants as field_fault
+use Rattle.ftd_verbs.specs.declared.field.Kind.{Kind}
+use Rattle.ftd_verbs.specs.declared.field.Kind.TheVariants as kind
 use Rattle.ftd_verbs.specs.declared.rows.Verb.{Verb}
 use Rattle.ftd_cli.specs.Table.{field_text, may_be_today}
 use Rattle.ftd_cli.specs.Values.{is_given, texts_in}
@@ -39,6 +42,17 @@ in_cents amount = record { 0 = amount }
 abbrev pub amount_of : Text → Option Cents
 amount_of text = option_map in_cents (cents_of text)
 
+-- the text stands in the place of the number of a new pay run or payment that takes the next one
+abbrev pub is_next : Text → Bool
+is_next text = bytes_eq text (codes "next")
+
+-- the number that the text says as a value of this kind: where a new pay run or payment takes the
+-- next number, the greatest one stands for it
+abbrev pub number_said : Kind → Text → Option ℕ
+number_said kind.NewNumber text =
+    if is_next text then Some greatest_number else whole_number text
+number_said other text = whole_number text
+
 -- the value of a field's word, and what it spells
 abbrev pub value_of : List Row → Field → Option Text
 value_of rows at = first_of (field_text at) rows
@@ -57,7 +71,7 @@ abbrev pub words_said : Option ℕ → List Row → Said
 words_said today rows = record {
   is_left_out = λ at. is_none (value_of rows at);
   text = λ at. value_of rows at;
-  whole = λ at. spelled whole_number rows at;
+  whole = λ at. spelled (number_said (kind_of at)) rows at;
   day = λ at. day_said today (may_be_today (word.Field at)) (value_of rows at);
   quarter = λ at. spelled spelled_quarter rows at;
   amount = λ at. spelled amount_of rows at;

@@ -3,9 +3,11 @@
 
 ghost use Rattle.std.specs.Prelude.{◌≡◌, Ok};
 ghost use Rattle.clap.specs.Words.{first_of, found_of, rows_of};
-ghost use Rattle.ftd_cli.specs.Asking.{Tells, TellsAs, account_in, asked_by, import_of};
-ghost use Rattle.ftd_cli.specs.Asking.{journal_of, open_years_of, plain_of, serve_of, shell_of};
-ghost use Rattle.ftd_cli.specs.Asking.{wanted_of, year_in};
+ghost use Rattle.std.specs.List.{list_any};
+ghost use Rattle.ftd_cli.specs.Asking.{Tells, TellsAs, account_in, asked_by, day_at, has_no_number};
+ghost use Rattle.ftd_cli.specs.Asking.{import_of, journal_of, open_years_of, plain_of, says_next};
+ghost use Rattle.ftd_cli.specs.Asking.{serve_of, settle_of, shell_of, wanted_of, wants_next};
+ghost use Rattle.ftd_cli.specs.Asking.{year_in};
 ghost use Rattle.ftd_cli.specs.Table.{word_text};
 ghost use Rattle.ftd_cli.specs.Tasks.{task_view, in_database};
 ghost use Rattle.ftd_cli.specs.Words.{request_of};
@@ -13,15 +15,15 @@ ghost use Rattle.ftd_cli.specs.declared.table.Word.TheVariants.{JournalAccount};
 
 use crate::fault::WordFault;
 use crate::reading::{days_at, format_at, is_given, owned_text, port_at, text_at, whole_at};
-use crate::tasks::{Job, LocalTask, PlainTask, ServeTask, ShellTask, Task};
-use crate::words::Words;
+use crate::tasks::{Job, LocalTask, PlainTask, ServeTask, Settlement, ShellTask, Task};
+use crate::words::{Words, day_said, is_next};
 use crate::{Name, Word};
 use clap::ArgMatches;
 use ftd_csv::Sheet;
 use ftd_days::{Day, FIRST_YEAR, LAST_OPEN_YEAR};
 use ftd_machine::{AccountName, Request};
 use ftd_rules::is_account_name;
-use ftd_verbs::{Field, Verb, read_request};
+use ftd_verbs::{Field, Kind, Verb, read_request};
 use std::alloc::Global;
 
 /// An account name, for `plain`.
@@ -142,6 +144,26 @@ fn open_years(alloc: Global, inner: &ArgMatches<'_>) -> Result<Task, WordFault>
     in_database(alloc, inner, Job::OpenYears { year })
 }
 
+/// The day that a word says, or today, where the word is left out and may be today.
+fn day_at(today: Option<Day>, inner: &ArgMatches<'_>, word: Word) -> Result<Day, WordFault>
+    ensures { result ≡ day_at today word (rows_of (found_of inner.now)) }
+{
+    day_said(today, inner, word).ok_or(WordFault::BadWord(word))
+}
+
+/// What settling what is due on a day asks.
+#[tactic(auto, unfolding(crate::specs::Asking::settle_of))]
+fn settle(alloc: Global, today: Option<Day>, inner: &ArgMatches<'_>) -> Result<Task, WordFault>
+    ensures { TellsAs task_view result (settle_of today (rows_of (found_of inner.now))) }
+{
+    let name = owned_text(alloc, inner, Word::Field(Field::Account))?;
+    let due = day_at(None, inner, Word::DueDay)?;
+    let paid = day_at(today, inner, Word::PaidDay)?;
+    let account = AccountName::from_string(name);
+    let settlement = Settlement { account, due, paid };
+    in_database(alloc, inner, Job::Settle(settlement))
+}
+
 /// The account whose journal is asked for; none where that of all is.
 fn journal_account(alloc: Global, inner: &ArgMatches<'_>) -> Result<Option<AccountName>, WordFault>
     ensures { Tells result (Ok (first_of (word_text JournalAccount) (rows_of (found_of inner.now)))) }
@@ -177,8 +199,40 @@ fn request(
     Ok(read_request(alloc, verb, &words)?)
 }
 
-/// The request, to the desk in the database: a correction with no number under the next one, any
-/// other in the format that is asked for.
+/// Whether the word of a field stands in the place of the next number.
+fn says_next(inner: &ArgMatches<'_>, field: Field) -> bool
+    ensures { result ≡ says_next (rows_of (found_of inner.now)) field }
+{
+    match text_at(inner, Word::Field(field)) {
+        Some(text) => matches!(field.kind(), Kind::NewNumber) && is_next(text),
+        None => false,
+    }
+}
+
+/// Whether what the verb asks is a correction with no number.
+fn has_no_number(verb: Verb, inner: &ArgMatches<'_>) -> bool
+    ensures { result ≡ has_no_number verb (rows_of (found_of inner.now)) }
+{
+    verb.is_correction() && text_at(inner, Word::Field(Field::Number)).is_none()
+}
+
+/// Whether the word for the next number stands in the place of one of these fields.
+fn one_says_next(fields: &[Field], inner: &ArgMatches<'_>) -> bool
+    ensures { result ≡ list_any (says_next (rows_of (found_of inner.now))) fields.now }
+{
+    fields.iter().any(|field| says_next(inner, *field))
+}
+
+/// Whether what the verb asks takes the next number: a correction with no number does, and what has
+/// the word for it in the place of a new number.
+fn wants_next(verb: Verb, inner: &ArgMatches<'_>) -> bool
+    ensures { result ≡ wants_next verb (rows_of (found_of inner.now)) }
+{
+    has_no_number(verb, inner) || one_says_next(Name::Verb(verb).fields(), inner)
+}
+
+/// The request, to the desk in the database: one that takes the next number under that, any other
+/// in the format that is asked for.
 fn asked(
     alloc: Global,
     verb: Verb,
@@ -187,8 +241,7 @@ fn asked(
 ) -> Result<Task, WordFault>
     ensures { TellsAs task_view result (asked_by verb (rows_of (found_of inner.now)) request) }
 {
-    let number = text_at(inner, Word::Field(Field::Number));
-    if verb.is_correction() && number.is_none() {
+    if wants_next(verb, inner) {
         return in_database(alloc, inner, Job::AskNext { request });
     }
     let format = format_at(inner, verb.row().formats)?;
@@ -211,6 +264,7 @@ pub fn task_for(
         Name::Shell => shell(alloc, inner),
         Name::Import(sheet) => import(alloc, sheet, inner),
         Name::OpenYears => open_years(alloc, inner),
+        Name::Settle => settle(alloc, today, inner),
         Name::Journal => journal(alloc, inner),
         Name::Verb(verb) => asked(alloc, verb, inner, request(alloc, today, verb, inner)?),
     }

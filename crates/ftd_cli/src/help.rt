@@ -31,6 +31,15 @@ const CHANGE_HOLIDAY: &str = "Example: ftd change-holiday --db office.db 2024-06
 const CORRECT_ACCOUNT: &str = "Example: ftd correct-account --db office.db elm 2024-05-01\n\
     Without --carried the account is not carried. What was first enrolled stays.";
 
+const POST: &str = "Example: ftd post --db office.db elm 1 2024-05-08 20000.00 16000.00 4000.00\n\
+    With next in the place of RUN it takes the next number and prints it.";
+
+const PAY: &str = "Example: ftd pay --db office.db elm 1 2024-06-17 2024-05-08 40000.00\n\
+    With next in the place of PAYMENT it takes the next number and prints it.";
+
+const SETTLE: &str = "Example: ftd settle --db office.db elm 2024-06-17\n\
+    Each payment is printed as its pay command, with its number and amount.";
+
 const SHELL: &str = "Example: ftd shell --db office.db commands.txt\n\
     A line is a command without ftd and --db: post elm 1 2024-05-08 20000.00 16000.00 4000.00";
 
@@ -47,6 +56,7 @@ impl Name {
             Name::Journal => "Print the commands that make the same desk, or account",
             Name::Import(sheet) => sheet_about(sheet),
             Name::OpenYears => "Open a year of each account whose year before is open",
+            Name::Settle => "Record what is left of the deposits due on a day as paid",
             Name::Verb(verb) => verb_about(verb),
         }
     }
@@ -60,6 +70,7 @@ impl Name {
             Name::Journal => JOURNAL,
             Name::Import(sheet) => sheet_example(sheet),
             Name::OpenYears => "Example: ftd open-years --db office.db 2025",
+            Name::Settle => SETTLE,
             Name::Verb(verb) => verb_example(verb),
         }
     }
@@ -116,11 +127,9 @@ fn verb_example<'a>(verb: Verb) -> &'a str {
         Verb::Report => "Example: ftd report --db office.db elm 2022Q3 12500.00",
         Verb::ReportYear => "Example: ftd report-year --db office.db rye 2022 50000.00",
         Verb::OpenYear => "Example: ftd open-year --db office.db elm 2024",
-        Verb::Post => {
-            "Example: ftd post --db office.db elm 1 2024-05-08 20000.00 16000.00 4000.00"
-        },
+        Verb::Post => POST,
         Verb::Void => "Example: ftd void --db office.db elm 1",
-        Verb::Pay => "Example: ftd pay --db office.db elm 1 2024-06-17 2024-05-08 40000.00",
+        Verb::Pay => PAY,
         Verb::VoidPay => "Example: ftd void-pay --db office.db elm 1",
         Verb::CorrectReport => CORRECT_REPORT,
         Verb::CorrectReportYear => CORRECT_REPORT_YEAR,
@@ -182,6 +191,8 @@ impl Word {
             Word::Echo => "Print each command before its answer",
             Word::Stop => "Stop at the first command that is not answered",
             Word::JournalAccount => "The account; all of the desk if it is left out",
+            Word::DueDay => "The day on which the deposit is due, YYYY-MM-DD",
+            Word::PaidDay => "The day on which it was paid, YYYY-MM-DD; today if it is left out",
             Word::Holidays => "Legal holidays of the year and the next, YYYY-MM-DD, ascending",
             Word::Format(formats) => formats_help(formats),
             Word::Field(field) => field_help(field),
@@ -201,12 +212,14 @@ fn field_help<'a>(field: Field) -> &'a str {
         Field::Days => "Legal holidays in the District of Columbia, YYYY-MM-DD, ascending",
         Field::Quarter => "The quarter, as 2024Q1",
         Field::Amount => "The amount in dollars, as 1234.50",
-        Field::Run => "The number of the pay run, 1 to 999999999",
+        Field::Run => "The number of the pay run, 1 to 999999999, or next",
+        Field::RunToVoid => "The number of the pay run, 1 to 999999999",
         Field::Payday => "The day on which the wages are paid, YYYY-MM-DD",
         Field::Fit => "The federal income tax withheld, as 1234.50",
         Field::Ss => "Both shares of social security tax, as 1234.50",
         Field::Medicare => "Both shares of Medicare tax, as 1234.50",
-        Field::Payment => "The number of the deposit, 1 to 999999999",
+        Field::Payment => "The number of the deposit, 1 to 999999999, or next",
+        Field::PaymentToVoid => "The number of the deposit, 1 to 999999999",
         Field::Paid => "The day on which it was paid, YYYY-MM-DD",
         Field::For => "A day of the period that it is paid for, YYYY-MM-DD",
         Field::Day => "The day, YYYY-MM-DD",

@@ -23,4 +23,6 @@ pub use crate::escape::{escape_text, escape_word};
 pub use crate::file::with_file;
 pub use crate::lines::{Line, MOST_LINE, Piece, command_words, next_piece, read_line, shown_words};
 pub use crate::table::{NAMES, Name, Takes, Word};
-pub use crate::tasks::{CliFault, Job, LocalTask, PlainTask, ServeTask, ShellTask, Task};
+pub use crate::tasks::{
+    CliFault, Job, LocalTask, PlainTask, ServeTask, Settlement, ShellTask, Task,
+};

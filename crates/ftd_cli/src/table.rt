@@ -8,8 +8,8 @@ ghost use Rattle.ftd_cli.specs.Table.{name_text, sheet_text, takes_file, takes_m
 ghost use Rattle.ftd_cli.specs.Table.{word_text, words_of, words_with};
 
 use Word::{
-    Check, Connections, CsvFile, Db, Duration, Echo, Holidays, Idle, JournalAccount, Port, Script,
-    Silence, Stop, Wait,
+    Check, Connections, CsvFile, Db, DueDay, Duration, Echo, Holidays, Idle, JournalAccount,
+    PaidDay, Port, Script, Silence, Stop, Wait,
 };
 use ftd_csv::Sheet;
 use ftd_verbs::{Field, Formats, Kind, Verb};
@@ -60,6 +60,8 @@ pub enum Name {
     Import(Sheet),
     /// A year is opened of each account that has the year before open.
     OpenYears,
+    /// What is left of the deposits that are due on a day is recorded as paid.
+    Settle,
     /// A request to the desk.
     Verb(Verb),
 }
@@ -93,6 +95,10 @@ pub enum Word {
     Stop,
     /// The account whose journal is asked for.
     JournalAccount,
+    /// The day on which what is settled is due.
+    DueDay,
+    /// The day on which what is settled was paid; today where it is left out.
+    PaidDay,
     /// The holidays for `plain`.
     Holidays,
     /// The format of the answer, one of these.
@@ -145,6 +151,7 @@ impl Name {
             Name::Journal => "journal",
             Name::Import(sheet) => sheet_text(sheet),
             Name::OpenYears => "open-years",
+            Name::Settle => "settle",
             Name::Verb(verb) => verb_text(verb),
         }
     }
@@ -171,6 +178,7 @@ impl Name {
             Name::Journal => &[Db, Wait, JournalAccount],
             Name::Import(_) => &[Db, Wait, Check, CsvFile],
             Name::OpenYears => &[Db, Wait, Word::Field(Field::Year)],
+            Name::Settle => &[Db, Wait, Word::Field(Field::Account), DueDay, PaidDay],
             Name::Verb(verb) => words_with(verb.row().formats),
         }
     }
@@ -198,12 +206,12 @@ fn field_text<'a>(field: Field) -> &'a str
         Field::Year => "YEAR",
         Field::Quarter => "QUARTER",
         Field::Amount => "AMOUNT",
-        Field::Run => "RUN",
+        Field::Run | Field::RunToVoid => "RUN",
         Field::Payday => "PAYDAY",
         Field::Fit => "FIT",
         Field::Ss => "SS",
         Field::Medicare => "MEDICARE",
-        Field::Payment => "PAYMENT",
+        Field::Payment | Field::PaymentToVoid => "PAYMENT",
         Field::Paid => "PAID",
         Field::For => "FOR",
         Field::AsOf | Field::AsOfToday => "ASOF",
@@ -228,7 +236,8 @@ fn kind_takes(kind: Kind) -> Takes
     ensures { result ≡ kind_takes kind }
 {
     match kind {
-        Kind::Account | Kind::Day | Kind::Quarter | Kind::Amount | Kind::Answer => Takes::Text,
+        Kind::Account | Kind::NewNumber | Kind::Day | Kind::Quarter | Kind::Amount | Kind::Answer =>
+            Takes::Text,
         Kind::Number | Kind::Year => Takes::Number(0, LARGEST_NUMBER),
         Kind::NumberOrNext => Takes::OptionalNumber(0, LARGEST_NUMBER),
         Kind::DayOrOther | Kind::DayOrToday => Takes::Optional,
@@ -264,6 +273,8 @@ impl Word {
             Word::Echo => "echo",
             Word::Stop => "stop",
             Word::JournalAccount => "ACCOUNT",
+            Word::DueDay => "DUE",
+            Word::PaidDay => "PAID",
             Word::Holidays => "HOLIDAY",
             Word::Format(_) => "format",
             Word::Field(field) => field_text(field),
@@ -275,7 +286,12 @@ impl Word {
         ensures { result ≡ is_option self }
     {
         match self {
-            Word::CsvFile | Word::Script | Word::Holidays | Word::JournalAccount => false,
+            Word::CsvFile
+            | Word::Script
+            | Word::Holidays
+            | Word::JournalAccount
+            | Word::DueDay
+            | Word::PaidDay => false,
             Word::Field(field) => is_kind_option(field.kind()),
             _ => true,
         }
@@ -286,7 +302,7 @@ impl Word {
         ensures { result ≡ takes_of self }
     {
         match self {
-            Word::Db | Word::CsvFile => Takes::Text,
+            Word::Db | Word::CsvFile | Word::DueDay => Takes::Text,
             Word::Wait => Takes::Wait,
             Word::Port => Takes::Number(0, LAST_PORT),
             Word::Connections => Takes::Number(1, MOST_CONNECTIONS),
@@ -295,7 +311,7 @@ impl Word {
             Word::Duration => Takes::Duration,
             Word::Check | Word::Echo | Word::Stop => Takes::Nothing,
             Word::Script => Takes::Script,
-            Word::JournalAccount => Takes::Optional,
+            Word::JournalAccount | Word::PaidDay => Takes::Optional,
             Word::Holidays => Takes::Texts,
             Word::Format(_) => Takes::Format,
             Word::Field(field) => kind_takes(field.kind()),
@@ -307,6 +323,7 @@ impl Word {
         ensures { result ≡ may_be_today self }
     {
         match self {
+            Word::PaidDay => true,
             Word::Field(field) => is_day_or_today(field.kind()),
             _ => false,
         }
@@ -330,7 +347,7 @@ const LAST_PORT: i64 = 65_535;
 const MOST_CONNECTIONS: i64 = 1_000_000;
 
 /// The subcommands, as help lists them: in the order in which an employer needs them.
-pub const NAMES: [Name; 36] = [
+pub const NAMES: [Name; 37] = [
     Name::Verb(Verb::Calendar),
     Name::Verb(Verb::Enrol),
     Name::Verb(Verb::Report),
@@ -346,6 +363,7 @@ pub const NAMES: [Name; 36] = [
     Name::Verb(Verb::Agenda),
     Name::Verb(Verb::Owed),
     Name::Verb(Verb::Pay),
+    Name::Settle,
     Name::Verb(Verb::Unapplied),
     Name::Verb(Verb::Status),
     Name::Verb(Verb::Explain),

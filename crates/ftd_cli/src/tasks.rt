@@ -6,6 +6,7 @@ ghost use Rattle.std.specs.Prelude.{◌≤◌};
 use crate::Word;
 use ftd_answers::Format;
 use ftd_csv::Sheet;
+use ftd_days::Day;
 use ftd_machine::{AccountName, Days, Request};
 
 /// The deposits of an account in a year, from pay runs on standard input.
@@ -19,6 +20,18 @@ pub struct PlainTask {
     pub holidays: Days,
     pub ghost from: { FIRST_YEAR ≤ year },
     pub ghost to: { year ≤ LAST_OPEN_YEAR },
+}
+
+/// What is left of each deposit of an account that is due on a day is to be recorded as a payment
+/// under the next number.
+#[derive(Drop)]
+pub struct Settlement {
+    /// The account's name.
+    pub account: AccountName,
+    /// The due date.
+    pub due: Day,
+    /// The day on which it was paid.
+    pub paid: Day,
 }
 
 /// What is to be done with the desk in a database.
@@ -36,9 +49,10 @@ pub enum Job {
         format: Format,
         request: Request,
     },
-    /// A correction under the next number: a request under the greatest one, to which the desk
-    /// answers how many corrections there are, unless it refuses it otherwise. It is to be asked
-    /// again under one more than these.
+    /// A pay run, a payment or a correction under the next number. The request is under the
+    /// greatest one. To a correction under that the desk answers how many there are, unless it
+    /// refuses it otherwise: it is to be asked again under one more than these. A pay run or a
+    /// payment is to be asked under the least number above all that its account has used.
     AskNext {
         request: Request,
     },
@@ -47,6 +61,8 @@ pub enum Job {
     OpenYears {
         year: u32,
     },
+    /// What is left of deposits is recorded as paid.
+    Settle(Settlement),
     /// The journal of the desk, or of this account: the commands that make the same one.
     Journal {
         account: Option<AccountName>,

@@ -10,3 +10,4 @@ mod WordsOn
 pub mod ByName
 mod Equal
 pub mod Whole
+mod NextNumbers

@@ -15,7 +15,7 @@ pub(crate) fn add<T: Drop>(item: T, items: &mut Vec<T>) -> Result<(), StoreFault
 }
 
 /// The number after this one. `Failed` where there is none below 2^32.
-fn next_number(number: u32) -> Result<u32, StoreFault>
+pub(crate) fn next_number(number: u32) -> Result<u32, StoreFault>
     ensures { IfOk result (λ next. next ≡ number + 1) }
 {
     match number.checked_add(1) {

@@ -18,3 +18,5 @@ mod years;
 
 pub use crate::days::days_journal;
 pub use crate::own_journal::account_journal;
+pub use crate::payments::next_payment;
+pub use crate::runs::next_run;

@@ -1,14 +1,16 @@
 //! The rows of an account that have a number, its runs and its payments, and the requests by which
 //! it has them.
 
-ghost use Rattle.std.specs.Prelude.{◌≡◌, ℕ, ◌++◌, Bool, IfOk, List, OnOk, flat_map};
+ghost use Rattle.std.specs.Prelude.{◌≡◌, ℕ, ◌-◌, ◌++◌, Bool, IfOk, List, OnOk, flat_map, length};
+ghost use Rattle.std.specs.Prelude.{option_map, slice_get};
 ghost use Rattle.std.specs.List.Sorted.{IsPermutation};
 ghost use Rattle.ftd_rules.specs.Lists.{KeysDoNotFall};
 ghost use Rattle.ftd_machine.specs.Journal.{void_if};
 ghost use Rattle.ftd_machine.specs.declared.requests.Request.{Request};
+ghost use Rattle.ftd_journal.specs.Numbers.{number_after};
 ghost use Rattle.ftd_journal.specs.Parts.{with_void};
 
-use crate::adding::add;
+use crate::adding::{add, next_number};
 use ftd_machine::{AccountName, Request};
 use ftd_store::StoreFault;
 use std::alloc::Global;
@@ -102,4 +104,16 @@ pub(crate) fn by_number<T: Numbered>(rows: Vec<T>) -> Result<Vec<T>, StoreFault>
     let mut rows = rows;
     rows.sort_by_key(|row| row.number())?;
     Ok(rows)
+}
+
+/// The number after the last of these rows, which go by number; 1 where there is none. `Failed`
+/// where there is none below 2^32.
+pub(crate) fn after_last<T: Numbered>(rows: &[T]) -> Result<u32, StoreFault>
+    ensures { IfOk result (λ number. number
+        ≡ number_after (option_map T.number_of (slice_get rows.now (length rows.now - 1)))) }
+{
+    match rows.last() {
+        Some(row) => next_number(row.number()),
+        None => Ok(1),
+    }
 }

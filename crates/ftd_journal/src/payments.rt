@@ -2,9 +2,10 @@
 
 ghost use Rattle.ftd_store.specs.Frame.{Reads};
 ghost use Rattle.ftd_machine.specs.declared.requests.Request.TheVariants.{Pay, VoidPay};
+ghost use Rattle.ftd_journal.specs.Numbers.{KnowsNextPayment};
 ghost use Rattle.ftd_journal.specs.Parts.{AddsPart, KnowsPayments, payment_number, payments_part};
 
-use crate::numbered::{Numbered, add_rows, by_number};
+use crate::numbered::{Numbered, add_rows, after_last, by_number};
 use ftd_days::{Day, MONTHS};
 use ftd_machine::{AccountName, Request};
 use ftd_store::{NumberedPayment, StoreFault, Tx};
@@ -75,6 +76,22 @@ pub(crate) fn add_payments<S: Alter>(
     let rows = payments(tx, alloc, name)?;
     match add_rows(alloc, name, &rows, requests) {
         Ok(()) => Ok(()),
+        Err(fault) => tx.give_up(fault),
+    }
+}
+
+/// The least number above all those of the account's payments, void ones too; 1 where it has none.
+/// `Failed` where there is none below 2^32, and `Memory` where there was no memory.
+pub fn next_payment<S: Alter>(
+    tx: &mut Tx<'_, S>,
+    alloc: Global,
+    name: &str,
+) -> Result<u32, StoreFault>
+    ensures call { Reads S.Store tx.old tx.new result (KnowsNextPayment name.now) }
+{
+    let rows = payments(tx, alloc, name)?;
+    match after_last(&rows) {
+        Ok(number) => Ok(number),
         Err(fault) => tx.give_up(fault),
     }
 }

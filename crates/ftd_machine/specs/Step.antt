@@ -238,7 +238,9 @@ Step s (Correct number (correction.Account name beginning)) answer new =
     Moves s answer new name number beginning
 Step s (Question question) answer new = Answers s answer new question
 
--- the same correction under another number; any other request stays as it is
+-- the same pay run, payment or correction under another number; any other request stays as it is
 abbrev pub with_number : Request → ℕ → Request
+with_number (Post account known run) number = Post account number run
+with_number (Pay account known payment) number = Pay account number payment
 with_number (Correct known correction) number = Correct number correction
 with_number request number = request

@@ -113,14 +113,29 @@ impl Request {
         }
     }
 
-    /// The same correction under another number. Any other request stays as it is.
-    pub fn with_number(mut self, number: u32) -> Request
+    /// The same pay run, payment or correction under another number. Any other request stays as it
+    /// is.
+    pub fn with_number(self, number: u32) -> Request
         ensures { result ≡ with_number self number }
     {
-        if let Request::Correct { number: own, .. } = &mut self {
-            *own = number;
+        match self {
+            Request::Post { account, run, .. } => Request::Post {
+                account,
+                number,
+                run,
+            },
+            Request::Pay {
+                account,
+                payment,
+                ..
+            } => Request::Pay {
+                account,
+                number,
+                payment,
+            },
+            Request::Correct { correction, .. } => Request::Correct { number, correction },
+            other => other,
         }
-        self
     }
 }
 

@@ -17,6 +17,7 @@ mod FaultLines
 mod Numbered
 mod OpenYears
 mod YearEnds
+mod Settled
 mod RecordFacts
 mod Puts
 mod Journaled

@@ -235,14 +235,12 @@ failure_is (Err why) refusal some = go (is_failure why) refl some where
   go false is some = absurd (let none = rw is at some in cc)
 
 -- the requests before a place, the one there, and those after it
-pub split_at : (requests : List Request) (i : ℕ) (request : Request) → i < length requests
-    → request ≡ get_or requests i request
-    → requests ≡ take i requests ++ request ∷ drop (i + 1) requests
-split_at requests i request some is =
-    sym (take-append-drop i requests)
-    ∙ ap (λ (xs : List Request). take i requests ++ xs)
-    (rw add-one (drop-cons requests i request some)
-    ∙ ap (λ (x : Request). x ∷ drop (i + 1) requests) (sym is))
+pub split_at : {X : Type 0} (xs : List X) (i : ℕ) (x : X) → i < length xs → x ≡ get_or xs i x
+    → xs ≡ take i xs ++ x ∷ drop (i + 1) xs
+split_at {X} xs i x some is =
+    sym (take-append-drop i xs)
+    ∙ ap (λ (later : List X). take i xs ++ later)
+    (rw add-one (drop-cons xs i x some) ∙ ap (λ (y : X). y ∷ drop (i + 1) xs) (sym is))
 
 module _ {S O E : Type 0} (g : store.Ghosts S) (o_taken : O → Option (List ℕ)) (o_failed : O → Bool)
     (e_taken : E → Option (List ℕ)) (e_failed : E → Bool) (out : O) (err : E) (old : Desk S)

@@ -7,6 +7,7 @@ use Rattle.ftd_cli.specs.declared.tasks.Job.TheVariants as job
 use Rattle.ftd_program.specs.Journals.{Journals}
 use Rattle.ftd_program.specs.OpenYears.{OpensYears}
 use Rattle.ftd_program.specs.Performing.{Asks, AsksNext, PerformsImport, PerformsTrial}
+use Rattle.ftd_program.specs.Settling.{Settles}
 use Rattle.ftd_program.specs.declared.performing.JobEnd.{JobEnd}
 
 module _ {S O E : Type 0} (g : store.Ghosts S) (o_taken : O → Option (List ℕ)) (o_failed : O → Bool)
@@ -24,5 +25,8 @@ module _ {S O E : Type 0} (g : store.Ghosts S) (o_taken : O → Option (List ℕ
       AsksNext g o_taken o_failed e_taken e_failed out err p old new db request
   Does old new input db (job.OpenYears year) =
       OpensYears g o_taken o_failed e_taken e_failed out err p old new db year
+  Does old new input db (job.Settle asked) =
+      Settles g o_taken o_failed e_taken e_failed db asked.account asked.due out err p old new
+      asked.paid
   Does old new input db (job.Journal account) =
       Journals g o_taken o_failed e_taken e_failed out err p old new db account

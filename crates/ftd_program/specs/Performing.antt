@@ -17,7 +17,7 @@ use Rattle.ftd_machine.specs.Step.{with_number}
 use Rattle.ftd_machine.specs.Questions.{question_of}
 use Rattle.ftd_machine.specs.declared.requests.Question.{Question as Questions}
 use Rattle.ftd_machine.specs.declared.requests.Question.TheVariants.{DueList}
-use Rattle.ftd_machine.specs.declared.requests.Request.TheVariants.{Question}
+use Rattle.ftd_machine.specs.declared.requests.Request.TheVariants.{Pay, Post, Question}
 use Rattle.ftd_questions.specs.Shown.{ShowsRows}
 use Rattle.ftd_questions.specs.Telling.{Replies, Refuses}
 use Rattle.ftd_questions.specs.Walks.{StandIfOpen}
@@ -50,7 +50,7 @@ use Rattle.ftd_replies.specs.declared.hints.HintFacts.{HintFacts}
 use Rattle.ftd_replies.specs.declared.hints.HintFacts.TheVariants.{Nothing}
 use Rattle.ftd_program.specs.AddedNotes.{added_notes}
 use Rattle.ftd_program.specs.Mending.{KnowsAfter, KnowsOf, or_nothing}
-use Rattle.ftd_program.specs.Numbering.{next_of, number_text}
+use Rattle.ftd_program.specs.Numbering.{FindsNumber, next_of, number_text}
 use Rattle.ftd_program.specs.RecordNotes.{PutsRefusals}
 use Rattle.ftd_program.specs.Summaries.{stop_status, stop_text, summary_status, summary_text}
 use Rattle.ftd_program.specs.declared.performing.JobEnd.{JobEnd}
@@ -275,28 +275,50 @@ module _ {S O E : Type 0} (g : store.Ghosts S) (o_taken : O → Option (List ℕ
       → PerformsBy o_taken o_failed e_taken e_failed out err p (held g before) (held g new) db
       format request answer
 
-  -- the number was printed, and then the request asked, which is under it, and its answer printed;
-  -- or standard output took no more than a prefix of the number, and the request was not asked
-  pub data AsksUnder (old new : Desk S) (db : List ℕ) (request : Request) (number : ℕ) : Type 0
+  -- the text was printed, and then the request asked, and its answer printed with what is said below
+  -- it; or standard output took no more than a prefix of the text, and the request was not asked
+  pub data AsksAfter (old new : Desk S) (db : List ℕ) (request : Request) (text : List ℕ) : Type 0
     where
-      asked : (told : O) → Appends (o_taken out) (o_taken told) (number_text number)
-          → Performs o_taken o_failed e_taken e_failed told err p (held g old) (held g new) db
-          as_text request → AsksUnder old new db request number
-      unasked : new ≡ old
-          → FailsOutput o_taken o_failed e_taken e_failed out err p (number_text number)
-          → AsksUnder old new db request number
+      asked : (told : O) → Appends (o_taken out) (o_taken told) text
+          → AnswersThenNotes g o_taken o_failed e_taken e_failed told err p old new db as_text
+          request → AsksAfter old new db request text
+      unasked : new ≡ old → FailsOutput o_taken o_failed e_taken e_failed out err p text
+          → AsksAfter old new db request text
+
+  -- the number was printed first
+  abbrev pub AsksUnder : Desk S → Desk S → List ℕ → Request → ℕ → Type 0
+  AsksUnder old new db request number = AsksAfter old new db request (number_text number)
 
   -- the correction was asked under the greatest number: it was answered how many there are, and
   -- the correction asked under the next number; or its answer was printed
-  pub data AsksNext (old new : Desk S) (db : List ℕ) (request : Request) : Type 0 where
+  pub data AsksCounted (old new : Desk S) (db : List ℕ) (request : Request) : Type 0 where
     counted : (answer : Answer) (between : Desk S) (number : ℕ)
         → Handles (held g old) (held g between) (with_number request greatest_number) answer
         → next_of answer ≡ Some number
         → AsksUnder between new db (with_number request number) number
-        → AsksNext old new db request
+        → AsksCounted old new db request
     answered : (answer : Answer) → next_of answer ≡ None
         → PerformsBy o_taken o_failed e_taken e_failed out err p (held g old) (held g new) db
-        as_text (with_number request greatest_number) answer → AsksNext old new db request
+        as_text (with_number request greatest_number) answer → AsksCounted old new db request
+
+  -- the pay run or payment was asked under the least number above all that its account has used; or
+  -- a fault came in place of the number, and it was not asked
+  pub data AsksUnused (old new : Desk S) (db : List ℕ) (request : Request) : Type 0 where
+    numbered : (between : Desk S) (number : ℕ)
+        → FindsNumber (held g old) (held g between) request number
+        → AsksUnder between new db (with_number request number) number
+        → AsksUnused old new db request
+    unnumbered : (refusal : Refusal) → IsFault (Err refusal)
+        → StandsAsBefore (held g old) (held g new)
+        → PrintsRefusal o_taken o_failed e_taken e_failed out err p db request Nothing refusal
+        → AsksUnused old new db request
+
+  -- the request was asked under the next number
+  abbrev pub AsksNext : Desk S → Desk S → List ℕ → Request → Type 0
+  AsksNext old new db (Post account known run) = AsksUnused old new db (Post account known run)
+  AsksNext old new db (Pay account known payment) =
+      AsksUnused old new db (Pay account known payment)
+  AsksNext old new db other = AsksCounted old new db other
 
   -- the summary of an import, or why it stopped, was printed; of a summary the desk was asked what
   -- is known of its refused records

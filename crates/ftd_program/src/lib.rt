@@ -28,6 +28,7 @@ mod reading;
 mod record_notes;
 mod refusals;
 mod runs;
+mod settle;
 mod shell;
 mod summaries;
 mod summary;

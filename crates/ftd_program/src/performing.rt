@@ -25,6 +25,7 @@ use crate::noting::answer_then_note;
 use crate::numbering::ask_next;
 use crate::open_years::open_years;
 use crate::record_notes::put_refusals;
+use crate::settle::settle;
 use crate::summaries::{write_bad_header, write_summary};
 use crate::{ImportStop, Progress, StopCause, Summary, import, import_trial};
 use ftd_answers::{DueText, Format, ListFormat, UnwrittenText};
@@ -48,10 +49,10 @@ pub struct JobEnd<O, E> {
     pub err: E,
 }
 
-/// Does the job of a task, with the desk of this file: asks its request of the desk, or a
-/// correction under the next number, or opens a year of each account that has the year before open,
-/// or prints a journal, or imports the entries of the input, CSV with the header of their sheet, or tells what an import
-/// would say of them. What came of it goes to `out`, and the line of a refusal or of a fault to
+/// Does the job of a task, with the desk of this file: asks its request of the desk, perhaps under
+/// the next number, or opens a year of each account that has the year before open, or records what is
+/// left of the deposits due on a day as paid, or prints a journal, or imports the entries of the
+/// input, CSV with the header of their sheet, or tells what an import would say of them. What came of it goes to `out`, and the line of a refusal or of a fault to
 /// `err`. What the desk took stands, also where `out` fails: the status is 3 then, and a prefix of
 /// the text was written. `progress` is told how far an import is, and its end before anything is
 /// printed.
@@ -77,6 +78,7 @@ pub fn perform<S: Alter, O: Target, E: Target, P: Progress>(
         Job::Ask { format, request } => ask(desk, db, format, request, out, err),
         Job::AskNext { request } => ask_next(desk, db, request, out, err),
         Job::OpenYears { year } => open_years(alloc, desk, db, year, out, err),
+        Job::Settle(asked) => settle(alloc, desk, db, &asked, out, err),
         Job::Journal { account } => journal(desk, db, account, out, err),
     }
 }

@@ -40,6 +40,7 @@ kind_text kind.Account =
 kind_text kind.Year = codes "a year from 2001 to 2098"
 kind_text kind.Number = number_form
 kind_text kind.NumberOrNext = number_form
+kind_text kind.NewNumber = codes "a number from 1 to 999999999, or next"
 kind_text kind.Answer = codes "yes or no"
 kind_text kind.Mark = allowed
 kind_text kind.Form = allowed
@@ -56,6 +57,8 @@ abbrev pub asked_text : Word → List ℕ
 asked_text (word.Field at) = kind_text (kind_of at)
 asked_text (word.Format formats) = formats_text formats
 asked_text word.Holidays = day_form
+asked_text word.DueDay = day_form
+asked_text word.PaidDay = day_form
 asked_text word.Port = codes "a port from 0 to 65535"
 asked_text word.Wait = codes "a number of seconds from 0 to 3600"
 asked_text other = allowed

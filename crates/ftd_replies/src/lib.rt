@@ -20,5 +20,5 @@ pub use crate::hints::{HintFacts, account_in, write_hints, write_told};
 pub use crate::notes::{asked_after, write_note};
 pub use crate::refusals::{status_of, write_refusal};
 pub use crate::replies::write_reply;
-pub use crate::request_lines::write_requests;
+pub use crate::request_lines::{write_request, write_requests};
 pub use crate::telling::{put, tell};

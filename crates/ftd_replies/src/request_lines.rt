@@ -381,6 +381,16 @@ impl RowFormat<Request> for Lines {
     }
 }
 
+/// Writes the line of a request: the command that asks it, with its fields in the order of its verb's
+/// row. A question, by which nothing is entered, has none. Where the target fails, a prefix of it was
+/// written, and it fails nowhere else.
+pub fn write_request<W: Target>(request: &Request, target: &mut W) -> Result<(), WriteFault>
+    ensures { Writes result (W.taken target.old) (W.taken target.new) (W.failed target.new)
+        (request_line request.now) }
+{
+    Lines.write_row(request, target)
+}
+
 /// Writes the lines of requests, one after the other: of each the command that asks it, with its
 /// fields in the order of its verb's row. A question, by which nothing is entered, has none. Where
 /// the target fails, a prefix of them was written, and it fails nowhere else.

@@ -64,6 +64,7 @@ fn kind_bytes(kind: Kind) -> &'static [u8]
         }
         Kind::Year => b"a year from 2001 to 2098",
         Kind::Number | Kind::NumberOrNext => b"a number from 1 to 999999999",
+        Kind::NewNumber => b"a number from 1 to 999999999, or next",
         Kind::Answer => b"yes or no",
         Kind::Mark | Kind::Form => ALLOWED,
     }
@@ -88,7 +89,7 @@ fn asked_bytes(word: Word) -> &'static [u8]
     match word {
         Word::Field(field) => kind_bytes(field.kind()),
         Word::Format(formats) => formats_bytes(formats),
-        Word::Holidays => DAY_FORM,
+        Word::Holidays | Word::DueDay | Word::PaidDay => DAY_FORM,
         Word::Port => b"a port from 0 to 65535",
         Word::Wait => b"a number of seconds from 0 to 3600",
         _ => ALLOWED,

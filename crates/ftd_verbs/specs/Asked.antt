@@ -159,13 +159,13 @@ open_year said = do
 unfoldable pub void : Said → Result Request Field
 void said = do
   account ← account_in said
-  number ← whole_in said field.Run
+  number ← whole_in said field.RunToVoid
   Ok (request.Void account number)
 
 unfoldable pub void_pay : Said → Result Request Field
 void_pay said = do
   account ← account_in said
-  number ← whole_in said field.Payment
+  number ← whole_in said field.PaymentToVoid
   Ok (request.VoidPay account number)
 
 unfoldable pub correct_report : Said → Result Request Field

@@ -125,8 +125,9 @@ row_of verb.Post = record {
 row_of verb.Void = record {
   command = codes "void";
   method = method.Delete;
-  path = text (codes "accounts") ∷ of field.Account ∷ text (codes "runs") ∷ of field.Run ∷ [];
-  fields = field.Account ∷ field.Run ∷ [];
+  path = text (codes "accounts") ∷ of field.Account ∷ text (codes "runs") ∷ of field.RunToVoid
+      ∷ [];
+  fields = field.Account ∷ field.RunToVoid ∷ [];
   formats = formats.Fixed;
 }
 row_of verb.Pay = record {
@@ -139,9 +140,9 @@ row_of verb.Pay = record {
 row_of verb.VoidPay = record {
   command = codes "void-pay";
   method = method.Delete;
-  path = text (codes "accounts") ∷ of field.Account ∷ text (codes "payments") ∷ of field.Payment
-      ∷ [];
-  fields = field.Account ∷ field.Payment ∷ [];
+  path = text (codes "accounts") ∷ of field.Account ∷ text (codes "payments")
+      ∷ of field.PaymentToVoid ∷ [];
+  fields = field.Account ∷ field.PaymentToVoid ∷ [];
   formats = formats.Fixed;
 }
 row_of verb.CorrectReport = record {

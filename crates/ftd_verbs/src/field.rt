@@ -24,8 +24,10 @@ pub enum Field {
     Quarter,
     /// An amount.
     Amount,
-    /// The number of a pay run.
+    /// The number of a new pay run.
     Run,
+    /// The number of the pay run that is voided.
+    RunToVoid,
     /// The day on which the wages are paid.
     Payday,
     /// The federal income tax withheld.
@@ -34,8 +36,10 @@ pub enum Field {
     Ss,
     /// Both shares of Medicare tax.
     Medicare,
-    /// The number of a payment.
+    /// The number of a new payment.
     Payment,
+    /// The number of the payment that is voided.
+    PaymentToVoid,
     /// The day on which it was paid.
     Paid,
     /// A day of the period that it is paid for.
@@ -67,6 +71,8 @@ pub enum Kind {
     Account,
     /// A whole number.
     Number,
+    /// A whole number under which nothing stands yet. A source may have a word for the next one.
+    NewNumber,
     /// A whole number, which may be left out: it is the next one then.
     NumberOrNext,
     /// A year.
@@ -105,12 +111,12 @@ impl Field {
             Field::Days => "days",
             Field::Quarter => "quarter",
             Field::Amount => "amount",
-            Field::Run => "run",
+            Field::Run | Field::RunToVoid => "run",
             Field::Payday => "payday",
             Field::Fit => "fit",
             Field::Ss => "ss",
             Field::Medicare => "medicare",
-            Field::Payment => "payment",
+            Field::Payment | Field::PaymentToVoid => "payment",
             Field::Paid => "paid",
             Field::For => "for",
             Field::Number => "number",
@@ -129,7 +135,8 @@ impl Field {
     {
         match self {
             Field::Account => Kind::Account,
-            Field::Run | Field::Payment => Kind::Number,
+            Field::RunToVoid | Field::PaymentToVoid => Kind::Number,
+            Field::Run | Field::Payment => Kind::NewNumber,
             Field::Number => Kind::NumberOrNext,
             Field::Year => Kind::Year,
             Field::Start | Field::Payday | Field::Paid | Field::For | Field::Day | Field::AsOf =>

@@ -5,7 +5,8 @@ ghost use Rattle.ftd_verbs.specs.Rows.{is_correction, row_of, row_seen};
 
 use crate::Field::{
     Account, Amount, AsOf, AsOfToday, Carried, Day, Days, Fit, For, Form, From, IsHoliday, LastDay,
-    Medicare, Number, Paid, Payday, Payment, Quarter, Run, Ss, Start, To, Until, Year,
+    Medicare, Number, Paid, Payday, Payment, PaymentToVoid, Quarter, Run, RunToVoid, Ss, Start, To,
+    Until, Year,
 };
 use crate::{Field, Formats};
 use Part::{Of, Text};
@@ -196,8 +197,8 @@ const POST: Row = Row {
 const VOID: Row = Row {
     command: "void",
     method: Method::Delete,
-    path: &[Text("accounts"), Of(Account), Text("runs"), Of(Run)],
-    fields: &[Account, Run],
+    path: &[Text("accounts"), Of(Account), Text("runs"), Of(RunToVoid)],
+    fields: &[Account, RunToVoid],
     formats: Formats::Fixed,
 };
 
@@ -212,8 +213,13 @@ const PAY: Row = Row {
 const VOID_PAY: Row = Row {
     command: "void-pay",
     method: Method::Delete,
-    path: &[Text("accounts"), Of(Account), Text("payments"), Of(Payment)],
-    fields: &[Account, Payment],
+    path: &[
+        Text("accounts"),
+        Of(Account),
+        Text("payments"),
+        Of(PaymentToVoid),
+    ],
+    fields: &[Account, PaymentToVoid],
     formats: Formats::Fixed,
 };
 

@@ -277,7 +277,7 @@ fn void<F: Fields>(alloc: Global, fields: &F) -> Result<Request, FieldFault>
     ensures { Tells result (void (F.said fields.now)) }
 {
     let account = account_in(alloc, fields)?;
-    let number = whole_in(fields, Field::Run)?;
+    let number = whole_in(fields, Field::RunToVoid)?;
     Ok(Request::Void { account, number })
 }
 
@@ -287,7 +287,7 @@ fn void_pay<F: Fields>(alloc: Global, fields: &F) -> Result<Request, FieldFault>
     ensures { Tells result (void_pay (F.said fields.now)) }
 {
     let account = account_in(alloc, fields)?;
-    let number = whole_in(fields, Field::Payment)?;
+    let number = whole_in(fields, Field::PaymentToVoid)?;
     Ok(Request::VoidPay { account, number })
 }
 

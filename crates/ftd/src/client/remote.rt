@@ -21,14 +21,14 @@ fn is_at(word: &str) -> bool {
 /// Whether a server answers the command: it reads no files, and has no desk but its own.
 fn is_served(name: Name) -> bool {
     match name {
-        Name::Verb(_) | Name::OpenYears | Name::Journal => true,
+        Name::Verb(_) | Name::OpenYears | Name::Settle | Name::Journal => true,
         Name::Plain | Name::Serve | Name::Shell | Name::Import(_) => false,
     }
 }
 
-/// Whether the words before a port name a command that a server answers.
-fn is_asked(before: &[String]) -> bool {
-    let Some(given) = before.get(1) else {
+/// Whether the words before a port and behind it name a command that a server answers.
+fn is_asked(before: &[String], behind: &[String]) -> bool {
+    let Some(given) = before.get(1).or(behind.first()) else {
         return false;
     };
     NAMES
@@ -40,22 +40,19 @@ fn is_asked(before: &[String]) -> bool {
 pub(crate) fn remote_of(words: &[String]) -> Option<Remote<'_>> {
     let place = words.iter().position(|word| is_at(word))?;
     let (before, from) = words.split_at(place);
-    if !is_asked(before) {
+    let (port, behind) = match from {
+        [word, port, behind @ ..] if word.as_str() == "--at" => (port.as_str(), behind),
+        [word, behind @ ..] => (word.strip_prefix("--at=").unwrap_or(""), behind),
+        [] => return None,
+    };
+    if !is_asked(before, behind) {
         return None;
     }
-    match from {
-        [word, port, behind @ ..] if word.as_str() == "--at" => Some(Remote {
-            port: port.as_str(),
-            before,
-            behind,
-        }),
-        [word, behind @ ..] => Some(Remote {
-            port: word.strip_prefix("--at=").unwrap_or(""),
-            before,
-            behind,
-        }),
-        [] => None,
-    }
+    Some(Remote {
+        port,
+        before,
+        behind,
+    })
 }
 
 /// Whether the word can stand in a line of a shell.

@@ -1,11 +1,13 @@
-//! The journal of the desk: that of its days, and that of an account.
+//! The journal of the desk, that of its days and that of an account; and the numbers that an
+//! account's runs and payments take.
 
 ghost use Rattle.std.specs.Prelude.{◌≡◌, Err, IfErr, IfOk, option_map};
 ghost use Rattle.sqlite.specs.State.{HasCleanDisk};
+ghost use Rattle.ftd_journal.specs.Numbers.{IsNextNumber};
 ghost use Rattle.ftd_journal.specs.Parts.{journal_of};
 ghost use Rattle.ftd_machine.specs.Journal.{days_journal};
 ghost use Rattle.ftd_machine.specs.Runs.{IsFault};
-ghost use Rattle.ftd_machine.specs.State.{State};
+ghost use Rattle.ftd_machine.specs.State.{State, entries_of};
 ghost use Rattle.ftd_desk.specs.Desks.{IsStopped, held, KeepsIfOpen};
 ghost use Rattle.ftd_desk.specs.Telling.{StandsAsBefore};
 
@@ -52,5 +54,41 @@ impl<S: Alter> Desk<S> {
             return Err(Refusal::Store);
         }
         journals::account_journal(&mut self.store, self.alloc, account)
+    }
+
+    /// The least number above all those of the account's runs, void ones too; 1 where it has none.
+    /// `Memory` and `Store` may come in place of it. The tables stay as they are. A desk that is
+    /// stopped answers `Store`, and touches nothing.
+    pub fn next_run(&mut self, account: &str) -> Result<u32, Refusal>
+        ensures knows { HasCleanDisk (held S.Store self.new).db
+            → (s : State) → KeepsIfOpen (held S.Store self.old) s
+            → IfOk result (λ number. IsNextNumber (entries_of s account.now).runs number) }
+        ensures fault { IfErr result (λ refusal. IsFault (Err refusal)) }
+        ensures stands { StandsAsBefore (held S.Store self.old) (held S.Store self.new) }
+        ensures stopped { IsStopped self.old
+            → (result ≡ Err Refusal.Store) × (self.new ≡ self.old) }
+    {
+        if self.stopped {
+            return Err(Refusal::Store);
+        }
+        journals::next_run(&mut self.store, self.alloc, account)
+    }
+
+    /// The least number above all those of the account's payments, void ones too; 1 where it has none.
+    /// `Memory` and `Store` may come in place of it. The tables stay as they are. A desk that is
+    /// stopped answers `Store`, and touches nothing.
+    pub fn next_payment(&mut self, account: &str) -> Result<u32, Refusal>
+        ensures knows { HasCleanDisk (held S.Store self.new).db
+            → (s : State) → KeepsIfOpen (held S.Store self.old) s
+            → IfOk result (λ number. IsNextNumber (entries_of s account.now).payments number) }
+        ensures fault { IfErr result (λ refusal. IsFault (Err refusal)) }
+        ensures stands { StandsAsBefore (held S.Store self.old) (held S.Store self.new) }
+        ensures stopped { IsStopped self.old
+            → (result ≡ Err Refusal.Store) × (self.new ≡ self.old) }
+    {
+        if self.stopped {
+            return Err(Refusal::Store);
+        }
+        journals::next_payment(&mut self.store, self.alloc, account)
     }
 }

@@ -1,24 +1,28 @@
-use Rattle.std.proofs.Common.{◌≡◌, ◌∙◌, sym, ap}
-use Rattle.ftd_machine.specs.Step.{with_number}
-use Rattle.ftd_verbs.specs.Asked.{greatest_number}
-use Rattle.ftd_program.specs.Performing.{counted, answered}
-use Rattle.ftd_program.proofs.Numbered.{renumbered}
+use Rattle.std.proofs.Common.{refl}
+use Rattle.ftd_program.specs.Performing.{numbered, unnumbered}
+use Rattle.ftd_program.proofs.Numbered.{next_counted, next_unused}
 use Rattle.ftd_program.proofs.numbering.ask_next.Goals as goal
 
-pub returns-in-Some : goal.returns-in-Some
-returns-in-Some g c =
-    let request = c.args.request in
-    let number = c.in-Some.number in
-    let first = c.with_number-first.ensures in
-    let same : c.with_number.result ≡ with_number request number = c.with_number.ensures
-    ∙ ap (λ r. with_number r number) first ∙ renumbered request greatest_number number in
-    counted c.handle-answer.result c.handle-answer.new.self number
-    (rw first at c.handle-answer.ensures.handles)
-    (sym c.next_of.ensures ∙ c.in-Some.is)
-    (rw same at c.ask_under.ensures)
+pub returns-in-Some-Ok : goal.returns-in-Some-Ok
+returns-in-Some-Ok g c =
+    let finds = rw c.in-Some-Ok.field-0-is at c.in-Some-Ok.ensures.finds in
+    next_unused g.S.Store g.O.Target.taken g.O.Target.failed g.E.Target.taken g.E.Target.failed
+    c.args.out c.args.err c.ask_under.result c.args.desk.now c.ask_under.new.desk c.args.db.now
+    c.args.request finds.0
+    (numbered c.unused_number.new.desk c.in-Some-Ok.number finds.1
+    (rw c.with_number.ensures at c.ask_under.ensures))
+
+pub returns-in-Some-Err : goal.returns-in-Some-Err
+returns-in-Some-Err g c =
+    let finds = rw c.in-Some-Err.field-0-is at c.in-Some-Err.ensures.finds in
+    next_unused g.S.Store g.O.Target.taken g.O.Target.failed g.E.Target.taken g.E.Target.failed
+    c.args.out c.args.err c.print_refusal.result c.args.desk.now c.unused_number.new.desk
+    c.args.db.now c.args.request finds.0
+    (unnumbered c.in-Some-Err.refusal finds.1 finds.2 c.print_refusal.ensures)
 
 pub returns-in-None : goal.returns-in-None
 returns-in-None g c =
-    let first = c.with_number-first.ensures in
-    answered c.handle-answer.result (sym c.next_of.ensures ∙ c.in-None.is)
-    (rw first at (c.print_answer.ensures c.args.desk.now c.handle-answer.ensures.handles))
+    next_counted g.S.Store g.O.Target.taken g.O.Target.failed g.E.Target.taken g.E.Target.failed
+    c.args.out c.args.err c.ask_counted.result c.args.desk.now c.ask_counted.new.desk c.args.db.now
+    c.args.request c.in-None.ensures.finds
+    (rw (c.in-None.ensures.same refl) at c.ask_counted.ensures)

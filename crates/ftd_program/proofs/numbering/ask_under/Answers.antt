@@ -3,7 +3,7 @@ use Rattle.ftd_program.specs.Performing.{asked, unasked}
 use Rattle.ftd_program.proofs.numbering.ask_under.Goals as goal
 
 pub returns-in-Ok : goal.returns-in-Ok
-returns-in-Ok g c = asked c.write_number.new.target c.in-Ok.ensures.ok c.answer.ensures
+returns-in-Ok g c = asked c.write_number.new.target c.in-Ok.ensures.ok c.answer_then_note.ensures
 
 pub returns-in-Err : goal.returns-in-Err
 returns-in-Err g c = unasked refl (record {

@@ -8,3 +8,6 @@ returns-in-OpenYears g c = rw c.in-OpenYears.is c.open_years.ensures
 
 pub returns : goal.returns
 returns g c = rw c.in-Journal.is c.journal.ensures
+
+pub returns-in-Settle : goal.returns-in-Settle
+returns-in-Settle g c = rw c.in-Settle.is c.settle.ensures
