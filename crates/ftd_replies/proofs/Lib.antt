@@ -1,2 +1,12 @@
+mod CutLines
+mod JournalValues
 mod FewAdded
+mod LineDays
+mod LineFacts
+mod LineTasks
+mod LineValues
+mod LineVerbs
+mod ReadBack
+mod RequestLines
 mod Rests
+mod Walked

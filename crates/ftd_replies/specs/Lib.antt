@@ -4,6 +4,7 @@ pub mod Commands
 pub mod Differing
 pub mod Enrolment
 pub mod Hints
+pub mod LineLaws
 pub mod Notes
 pub mod Putting
 pub mod Questions

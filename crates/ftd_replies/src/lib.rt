@@ -6,6 +6,7 @@ mod below;
 mod differing;
 mod enrolment;
 mod hints;
+pub mod laws;
 mod notes;
 mod questions;
 mod refusals;
