@@ -1,1 +1,2 @@
 pub mod Responses
+pub mod JournalFacts

@@ -1,5 +1,6 @@
 -- Responses, case by case.
-use Rattle.std.proofs.Common.{◌≡◌, ◌⊎◌, ℕ, Bool, List, Result, Ok, Err, false, true, inl, inr, refl}
+use Rattle.std.proofs.Common.{◌≡◌, ◌⊎◌, ℕ, Bool, List, Option, Result, Ok, Err, false, true, inl}
+use Rattle.std.proofs.Common.{inr, refl}
 use Rattle.std.proofs.lemmas.Bool.{cases_Bool}
 use Rattle.std.proofs.lemmas.Str.{IsUtf8-from_is_utf8, is_utf8-from_IsUtf8}
 use Rattle.std.specs.Prelude.{IfOk, OnErr}
@@ -50,22 +51,26 @@ pub texts : (out err : List ℕ) (exit : ℕ) → IsUtf8 out → IsUtf8 err
     → json status.Okay (written_text out err exit) ≡ written_response out err exit
 texts out err exit is also = rw (is_utf8-from_IsUtf8 out is, is_utf8-from_IsUtf8 err also) refl
 
--- what is not commands is answered by the desk alone
+-- what is neither commands nor a journal is answered by the desk alone
 pub by_desk : {S : Type 0} (g : store.Ghosts S) (old new : Desk S) (db : List ℕ) (what : Inquiry)
     (body : List ℕ) (said : Said) → (what ≡ asked.Commands → ⊥)
+    → ((account : Option (List ℕ)) → what ≡ asked.Journal account → ⊥)
     → Responds (handles g) old what said new → RespondsOver g old new db what body said
-by_desk g old new db asked.NoRoute body said other responds = responds
-by_desk g old new db (asked.OtherMethod allow) body said other responds = responds
-by_desk g old new db asked.BadForm body said other responds = responds
-by_desk g old new db asked.Commands body said other responds = absurd (other refl)
-by_desk g old new db (asked.Asks format request) body said other responds = responds
+by_desk g old new db asked.NoRoute body said other none responds = responds
+by_desk g old new db (asked.OtherMethod allow) body said other none responds = responds
+by_desk g old new db asked.BadForm body said other none responds = responds
+by_desk g old new db asked.Commands body said other none responds = absurd (other refl)
+by_desk g old new db (asked.Journal account) body said other none responds =
+    absurd (none account refl)
+by_desk g old new db (asked.Asks format request) body said other none responds = responds
 
 -- a response of the desk that was lost is one of the shell
 pub desk_lost : {S F : Type 0} (g : store.Ghosts S) (old : Shell S F) (desk : Desk S)
     (what : Inquiry) (body : List ℕ) → (what ≡ asked.Commands → ⊥)
+    → ((account : Option (List ℕ)) → what ≡ asked.Journal account → ⊥)
     → (desk ≡ old.desk) ⊎ ((said : Said) × Responds (handles g) old.desk what said desk)
     → ((record old { desk = desk }) ≡ old)
     ⊎ ((said : Said) × ShellResponds g old what body said (record old { desk = desk }))
-desk_lost g old desk what body other (inl same) = inl (rw same refl)
-desk_lost g old desk what body other (inr (said, responds)) =
-    inr (said, (by_desk g old.desk desk _ what body said other responds, refl))
+desk_lost g old desk what body other none (inl same) = inl (rw same refl)
+desk_lost g old desk what body other none (inr (said, responds)) =
+    inr (said, (by_desk g old.desk desk _ what body said other none responds, refl))

@@ -15,6 +15,7 @@ use Rattle.ftd_server.specs.Replying.{Responds as RespondsByRequests}
 use Rattle.ftd_server.specs.Responses.{Said}
 use Rattle.ftd_server.specs.Tables.{handles}
 use Rattle.ftd_server.specs.Turns.{asks}
+use Rattle.ftd.specs.Journals.{TellsJournal}
 use Rattle.ftd.specs.Written.{written_response}
 
 -- the file of the shell's desk, as hints name it
@@ -48,9 +49,11 @@ module _ {S : Type 0} (g : store.Ghosts S) where
     pub answers : AnswersBody old new db body end
     pub is : said ≡ written_response (said_in end.out) (said_in end.err) end.status
 
-  -- commands are answered by the shell, and all else by the desk alone
+  -- commands are answered by the shell, and who asks for a journal is told its lines; all else is
+  -- answered by the desk alone
   abbrev pub RespondsOver : Desk S → Desk S → List ℕ → Inquiry → List ℕ → Said → Type 0
   RespondsOver old new db asked.Commands body said = RespondsToBody old new db body said
+  RespondsOver old new db (asked.Journal account) body said = TellsJournal g old new account said
   RespondsOver old new db other body said =
       RespondsByRequests (handles g) old other said new
 

@@ -6,6 +6,7 @@ mod beginning;
 mod client;
 mod commands;
 mod jobs;
+mod journal;
 mod lines;
 mod progress;
 mod server;

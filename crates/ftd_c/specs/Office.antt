@@ -12,7 +12,7 @@ abbrev pub no_answers : ℕ
 no_answers = 18_446_744_073_709_551_615
 
 -- the deposit machine, from nothing accepted on, answers these messages, of which it takes requests
--- and no commands, and the text of its answers is this one
+-- and neither commands nor journals, and the text of its answers is this one
 abbrev pub IsAnswered : List Message → List ℕ → Type 0
 IsAnswered messages text =
     (end : State) × Answered (ByRequests Goes) nothing end messages text

@@ -9,3 +9,4 @@ pub mod RouteFacts
 pub mod BodyFacts
 pub mod PathFacts
 pub mod AskFacts
+pub mod NameFacts

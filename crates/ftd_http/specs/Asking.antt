@@ -1,5 +1,7 @@
 -- What a message asks.
-use Rattle.std.specs.Prelude.{List, ℕ, Option, Some, None, codes, if◌then◌else◌}
+use Rattle.std.specs.Prelude.{◌==◌, ◌&&◌, not, length, List, ℕ, Option, Some, None, codes}
+use Rattle.std.specs.Prelude.{option_and_then, if◌then◌else◌}
+use Rattle.std.specs.Path.{rsplit_once}
 use Rattle.std.specs.Str.{is_utf8, bytes_eq}
 use Rattle.ftd_machine.specs.declared.requests.Request.{Request}
 use Rattle.ftd_answers.specs.declared.formats.Format.{Format}
@@ -48,8 +50,33 @@ abbrev pub commands_asked : List ℕ → Inquiry
 commands_asked method =
     if bytes_eq method (method_text Post) then asked.Commands else asked.OtherMethod Post
 
+-- the target of the desk's journal, and what a message of this method asks there, or at that of an
+-- account's
+abbrev pub journal_path : List ℕ
+journal_path = codes "/journal"
+
+abbrev pub journal_asked : List ℕ → Option (List ℕ) → Inquiry
+journal_asked method account =
+    if bytes_eq method (method_text Get) then asked.Journal account else asked.OtherMethod Get
+
+-- the name of the account whose journal a target asks for: what is behind its last slash, if that
+-- is not empty and the target of the desk's journal is before it
+abbrev pub named_by : List ℕ × List ℕ → Option (List ℕ)
+named_by cut = if bytes_eq cut.0 journal_path && not (length cut.1 == 0) then Some cut.1 else None
+
+unfoldable pub journal_name : List ℕ → Option (List ℕ)
+journal_name target =
+    if is_utf8 target then option_and_then named_by (rsplit_once 47 target) else None
+
+-- what a message asks of the account of this name, if its target has one, or else by the route of a
+-- verb
+abbrev pub named_asked : List ℕ → List ℕ → List ℕ → Option (List ℕ) → Inquiry
+named_asked method target body None = verb_asked method target body
+named_asked method target body (Some account) = journal_asked method (Some account)
+
 -- what a message of this method, this target and this body asks
 unfoldable pub asked_of : List ℕ → List ℕ → List ℕ → Inquiry
 asked_of method target body =
     if bytes_eq target commands_path then commands_asked method
-    else verb_asked method target body
+    else if bytes_eq target journal_path then journal_asked method None
+    else named_asked method target body (journal_name target)

@@ -1,15 +1,17 @@
 //! What a message asks.
 
-ghost use Rattle.std.specs.Prelude.{◌≡◌, IfOk};
+ghost use Rattle.std.specs.Prelude.{◌≡◌, IfOk, option_map};
 ghost use Rattle.std.specs.Str.{bytes_eq};
 ghost use Rattle.ftd_http.specs.Routes.{all_routes};
 ghost use Rattle.ftd_http.specs.Asking.{asked_of, commands_asked, commands_path, formed};
-ghost use Rattle.ftd_http.specs.Asking.{method_text, verb_asked};
+ghost use Rattle.ftd_http.specs.Asking.{journal_asked, journal_name, journal_path, method_text};
+ghost use Rattle.ftd_http.specs.Asking.{named_by, verb_asked};
 
 use crate::message_fields::make_request;
-use crate::route::look_up;
+use crate::route::{last_cut, look_up};
+use crate::values::name;
 use ftd_answers::Format;
-use ftd_machine::Request;
+use ftd_machine::{AccountName, Request};
 use ftd_verbs::{Method, Verb};
 use matchit::Router;
 use std::alloc::{AllocError, Global};
@@ -25,6 +27,8 @@ pub enum Inquiry {
     BadForm,
     /// The commands that stand in its body, one a line, are to be answered.
     Commands,
+    /// The journal of the account is to be told, or that of the desk where none is named.
+    Journal(Option<AccountName>),
     /// A request to the desk. A reply that has several formats is told in this one.
     Asks { format: Format, request: Request },
 }
@@ -55,9 +59,14 @@ pub fn what_is_asked(
     ensures { IfOk result (λ asked. asked ≡ asked_of method.now target.now body.now) }
 {
     if is_of_commands(target) {
-        Ok(commands_asked(method))
-    } else {
-        verb_asked(alloc, router, method, target, body)
+        return Ok(commands_asked(method));
+    }
+    if is_of_journal(target) {
+        return Ok(journal_asked(method, None));
+    }
+    match journal_name(target) {
+        Some(account) => Ok(journal_asked(method, Some(name(alloc, account)?))),
+        None => verb_asked(alloc, router, method, target, body),
     }
 }
 
@@ -76,6 +85,49 @@ fn commands_asked(method: &[u8]) -> Inquiry
         Inquiry::Commands
     } else {
         Inquiry::OtherMethod(Method::Post)
+    }
+}
+
+/// Whether the target is that of the desk's journal.
+fn is_of_journal(target: &[u8]) -> bool
+    ensures { result ≡ bytes_eq target.now journal_path }
+{
+    target == b"/journal".as_slice()
+}
+
+/// The name of the account whose journal a target asks for: what is behind its last slash, if that
+/// is not empty and the target of the desk's journal is before it.
+fn journal_name(target: &[u8]) -> Option<&str>
+    ensures { option_map (λ name. name.now) result ≡ journal_name target.now }
+{
+    let Ok(target) = str::from_utf8(target) else {
+        return None;
+    };
+    let (path, account) = last_cut(target)?;
+    named_by(path, account)
+}
+
+/// The name behind the last slash of a target, if it is that of an account whose journal is asked
+/// for.
+fn named_by<'t>(path: &str, account: &'t str) -> Option<&'t str>
+    ensures { option_map (λ name. name.now) result ≡ named_by (path.now, account.now) }
+{
+    if path == "/journal" && !account.is_empty() {
+        Some(account)
+    } else {
+        None
+    }
+}
+
+/// What a message of this method asks whose target is that of the account's journal, or of the
+/// desk's where there is none.
+fn journal_asked(method: &[u8], account: Option<AccountName>) -> Inquiry
+    ensures { result ≡ journal_asked method.now account }
+{
+    if is_method(method, Method::Get) {
+        Inquiry::Journal(account)
+    } else {
+        Inquiry::OtherMethod(Method::Get)
     }
 }
 

@@ -126,7 +126,7 @@ fn behind(verb: Verb, text: &str) -> Option<Format>
 }
 
 /// A target before its last slash, and behind it.
-fn last_cut(target: &str) -> Option<(&str, &str)>
+pub(crate) fn last_cut(target: &str) -> Option<(&str, &str)>
     ensures { option_map (λ cut. (cut.0.now, cut.1.now)) result ≡ rsplit_once 47 target.now }
 {
     target.rsplit_once('/')

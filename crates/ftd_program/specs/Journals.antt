@@ -37,7 +37,7 @@ all_asked = kept_asked kept.Accounts
 abbrev pub StoodFor : Held → State → Type 0
 StoodFor h s = KeepsIfOpen h s × IsSound s
 
--- there was no memory, or the store failed; or standard output has failed
+-- there was no memory, or the store failed; or what it is written to has failed
 abbrev pub IsJournalFault : JournalFault → Bool → Type 0
 IsJournalFault (fault.Desk refusal) failed = IsFault (Err refusal)
 IsJournalFault fault.Output failed = failed ≡ true

@@ -22,10 +22,10 @@ use sqlite::Alter;
 
 /// Why a journal is not written whole.
 #[derive(Clone, Copy, Debug, PartialEq, Eq)]
-enum JournalFault {
+pub enum JournalFault {
     /// There was no memory, or the store failed.
     Desk(Refusal),
-    /// Standard output failed.
+    /// What it is written to failed.
     Output,
 }
 
@@ -99,8 +99,13 @@ fn write_all_accounts<S: Alter, O: Target>(
     }
 }
 
-/// Writes the journal: that of the days, and then those of all accounts, by name.
-fn write_journal<S: Alter, O: Target>(desk: &mut Desk<S>, out: &mut O) -> Result<(), JournalFault>
+/// Writes the journal of the desk, a line for each request: that of the days, and then those of all
+/// accounts, by name. A fault where there was no memory, the store failed, or the target did: a
+/// prefix of the lines was written then. The desk stands as before.
+pub fn write_journal<S: Alter, O: Target>(
+    desk: &mut Desk<S>,
+    out: &mut O,
+) -> Result<(), JournalFault>
     ensures { WritesPart S.Store O.taken O.failed desk.old desk.new out.old out.new
         result journal }
 {

@@ -40,6 +40,7 @@ pub use crate::collection::Collection;
 pub use crate::deposits::plain;
 pub use crate::fault::PlainFault;
 pub use crate::importing::import;
+pub use crate::journal::{JournalFault, write_journal};
 pub use crate::performing::{JobEnd, perform};
 pub use crate::printing::print_plain;
 pub use crate::progress::{Progress, Quiet};

@@ -1,5 +1,5 @@
 -- What is said of a desk before and after each request, said of the states that it stands for.
-use Rattle.std.proofs.Common.{◌≡◌, ◌++◌, ℕ, Bool, List, [], length, Option, Result, Ok, Err, refl}
+use Rattle.std.proofs.Common.{◌≡◌, ◌++◌, ℕ, Bool, List, length, Option, Result, Ok, Err, refl}
 use Rattle.std.proofs.Common.{◌∙◌, sym, inl, inr}
 use Rattle.std.proofs.lemmas.Bool.{true≢false, cases_Bool}
 use Rattle.std.specs.Prelude.{IfOk, IfErr}
@@ -92,6 +92,8 @@ module _ {S : Type 0} (g : store.Ghosts S) where
       (λ s. (refl, is))
   responds now later asked.Commands said (same, is) = same_desk _ _ _ (held_same now later same)
       (λ s. (refl, is))
+  responds now later (asked.Journal account) said (same, is) =
+      same_desk _ _ _ (held_same now later same) (λ s. (refl, is))
   responds now later (asked.Asks format request) said (answer, handled, is) =
       record {
         honest = handled.honest;

@@ -49,6 +49,7 @@ module _ {M : Type 0} (goes : M → Request → Answer → M → Type 0) where
   Responds now (asked.OtherMethod allow) said later = (later ≡ now) × (said ≡ other_method allow)
   Responds now asked.BadForm said later = (later ≡ now) × (said ≡ bare status.BadRequest)
   Responds now asked.Commands said later = (later ≡ now) × (said ≡ bare status.NotFound)
+  Responds now (asked.Journal account) said later = (later ≡ now) × (said ≡ bare status.NotFound)
   Responds now (asked.Asks format request) said later =
       (answer : Answer) × goes now request answer later × (said ≡ answered format answer)
 

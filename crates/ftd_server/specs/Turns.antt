@@ -13,7 +13,6 @@ use Rattle.ftd_desk.specs.declared.desk.Desk.{Desk}
 use Rattle.ftd_server.specs.Responses.{Said}
 use Rattle.ftd_server.specs.Serving.{Answered, Broken}
 use Rattle.ftd_server.specs.Tables.{handles}
-use Rattle.ftd_server.specs.declared.connection.Cause.{Cause}
 use Rattle.ftd_server.specs.declared.outcome.Outcome.{Outcome}
 use Rattle.ftd_server.specs.declared.outcome.Outcome.TheVariants as outcome
 

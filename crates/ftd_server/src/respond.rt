@@ -16,8 +16,8 @@ use ftd_machine::{Answer, Difference, Reply, is_bounded};
 use sqlite::Alter;
 use std::alloc::{AllocError, Global};
 
-/// The response of a desk to what is asked. A desk alone answers requests, and no commands. Where
-/// there is no memory for the response, the desk may have answered.
+/// The response of a desk to what is asked. A desk alone answers requests, and neither commands nor
+/// journals. Where there is no memory for the response, the desk may have answered.
 pub fn desk_response<S: Alter>(
     alloc: Global,
     desk: &mut Desk<S>,
@@ -32,7 +32,7 @@ pub fn desk_response<S: Alter>(
         Inquiry::NoRoute => Ok(bare_response(alloc, Status::NotFound)),
         Inquiry::OtherMethod(allow) => Ok(other_method(alloc, *allow)),
         Inquiry::BadForm => Ok(bare_response(alloc, Status::BadRequest)),
-        Inquiry::Commands => Ok(bare_response(alloc, Status::NotFound)),
+        Inquiry::Commands | Inquiry::Journal(_) => Ok(bare_response(alloc, Status::NotFound)),
         Inquiry::Asks { format, request } => {
             let answer = desk.handle(request);
             answered(alloc, *format, &answer)

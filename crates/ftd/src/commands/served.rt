@@ -7,6 +7,7 @@ ghost use Rattle.ftd.specs.Commands.{AnswersBody, RespondsToBody, file_of};
 
 use crate::commands::body::BodyLines;
 use crate::commands::written::written_response;
+use crate::journal::journal_response;
 use ftd_cli::DayClock;
 use ftd_desk::Desk;
 use ftd_http::Inquiry;
@@ -102,7 +103,8 @@ fn body_response<S: Alter, F: Inputs + DayClock>(
     )
 }
 
-/// The way in which a shell answers messages: commands itself, and requests by its desk.
+/// The way in which a shell answers messages: commands itself, journals out of its desk, and
+/// requests by it.
 pub(crate) struct ByShell;
 
 impl<S: Alter, F: Inputs + DayClock> Machine<ByShell> for Shell<S, F> {
@@ -120,6 +122,7 @@ impl<S: Alter, F: Inputs + DayClock> Machine<ByShell> for Shell<S, F> {
     ) -> Result<Response, AllocError> {
         match asked {
             Inquiry::Commands => body_response(alloc, self, body),
+            Inquiry::Journal(account) => journal_response(alloc, &mut self.desk, account.as_ref()),
             _ => desk_response(alloc, &mut self.desk, asked),
         }
     }
