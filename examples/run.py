@@ -13,8 +13,10 @@ begins an example, in a new folder that has a copy of `examples/holidays`, a lin
 With no TEXT it looks too whether README.md quotes the source of `ftd_example`: all of its `main.rt` but what stands at its head.
 
 An example that keeps its file by more than one command runs a second time: each command in a folder of its own, with copies of the
-files that the ones before left, and no log beside them. If all its commands are lines of `ftd shell`, it runs a third time, as one script
-of that: each line is answered as the command is, but that the file was made is said at the end.
+files that the ones before left, and no log beside them. It runs a third time with a server: while office.db is there, a `serve` has it
+open, and each command that takes `--at PORT` in the place of `--db office.db` is asked of that; for any other the server is killed. If all
+its commands are lines of `ftd shell`, it runs once more, as one script of that: each line is answered as the command is, but that the file
+was made is said at the end.
 
 The last line is `N passed, M failed`, of examples. A wrong answer is told with the name of the text and the line; so are a command
 with no answer, one that is not run, and a text with no command.
@@ -52,6 +54,14 @@ class Step:
         """The name of the file that stands below the command, if it is one that shows a file."""
         name = re.fullmatch(r"cat ([\w.-]+)", self.command)
         return name and name[1]
+
+    def served(self, port):
+        """The command as it is asked of the server at the port, if it can be. A word in quotes is not sent, nor is one that waits for the file."""
+        named = re.findall(r"\bftd ([a-z-]+)(?: --db office\.db)?", self.command)
+        asked = self.command.replace(" --db office.db", f" --at {port}")
+        is_sent = named and not any(re.fullmatch(r"serve|shell|plain|help|import.*", it) for it in named)
+        is_all = len(named) == self.command.count(" --db office.db") and not re.search(r"office\.db|FTD_DB|--wait|--at=|\bftd [^|;&>]*['\"$]", asked.replace(f"--at {port}", ""))
+        return asked if is_sent and is_all else None
 
     def shell_line(self):
         """The command as a line of `ftd shell` over office.db, if it can be one."""
@@ -113,10 +123,11 @@ def free_port():
 
 
 class Run:
-    """One run of an example, in a folder of its own or, command by command, in new ones."""
+    """One run of an example, in a folder of its own or, command by command, in new ones, or with a server."""
 
-    def __init__(self, example, program, moves):
-        self.example, self.program, self.moves, self.status, self.server = example, program, moves, 0, None
+    def __init__(self, example, program, way):
+        self.example, self.program, self.moves, self.is_served = example, program, way == "apart", way == "served"
+        self.status, self.server, self.asked = 0, None, 0
         self.room = tempfile.mkdtemp(prefix="ftd-examples-")
         os.mkdir(f"{self.room}/bin")
         os.symlink(program, f"{self.room}/bin/ftd")
@@ -138,9 +149,28 @@ class Run:
         self.server = subprocess.Popen([self.program, *words], cwd=self.folder, stdout=subprocess.PIPE, stderr=subprocess.DEVNULL, text=True)
         self.server.stdout.readline()
 
+    def end_server(self):
+        """Kills the server, if there is one."""
+        if self.server:
+            self.server.kill()
+            self.server.wait()
+            self.server = None
+
+    def over_server(self, step):
+        """The command as it is asked of a server over office.db, which is started where there is none; or as it is, with no server."""
+        if not step.served(0) or not os.path.exists(f"{self.folder}/office.db"):
+            self.end_server()
+            return step.command
+        if not self.server:
+            words = ["serve", "--db", "office.db", "--port", "0", "--connections", "100000"]
+            self.server = subprocess.Popen([self.program, *words], cwd=self.folder, stdout=subprocess.PIPE, stderr=subprocess.DEVNULL, text=True)
+            self.at = self.server.stdout.readline().strip().rpartition(":")[2]
+        self.asked += 1
+        return step.served(self.at)
+
     def printed(self, step):
         """What the command prints."""
-        command = f"(exit {self.status})\n{step.command}"
+        command = f"(exit {self.status})\n{self.over_server(step) if self.is_served else step.command}"
         if self.port:
             command = command.replace(":8080/", f":{self.port}/")
         path = f"{self.room}/bin:{os.environ['PATH']}"
@@ -193,7 +223,8 @@ class Run:
             printed = [f"(no end within {SECONDS} seconds)"]
         if printed == wanted:
             return []
-        at = f"{self.example.text}:{step.line}: differs{', in a folder of its own' if self.moves else ''}: {step.command}"
+        where = ", in a folder of its own" if self.moves else ", asked of a server" if self.is_served else ""
+        at = f"{self.example.text}:{step.line}: differs{where}: {step.command}"
         return [at, *[f"    printed  {it}" for it in printed], *[f"    wanted   {it}" for it in wanted]]
 
     def all(self):
@@ -202,22 +233,20 @@ class Run:
         try:
             for number, step in enumerate(self.example.steps):
                 wrong += self.step(number, step)
-            if self.server and self.server.wait(SECONDS):
+            if self.server and not self.is_served and self.server.wait(SECONDS):
                 wrong.append(f"{self.example.text}: serve ended with status {self.server.returncode}: {self.example.title}")
         except subprocess.TimeoutExpired:
             wrong.append(f"{self.example.text}: serve had not ended: {self.example.title}")
         finally:
-            if self.server:
-                self.server.kill()
-                self.server.wait()
+            self.end_server()
             shutil.rmtree(self.room)
         return wrong
 
 
 def run(program, example, way):
-    """Runs an example in one of the three ways, and gives what is wrong."""
-    it = Run(example, program, way == "apart")
-    return it.script() if way == "script" else it.all()
+    """Runs an example in one of the four ways, and gives what is wrong, and how many commands were asked of a server."""
+    it = Run(example, program, way)
+    return (it.script() if way == "script" else it.all()), it.asked
 
 
 def never_run(texts):
@@ -251,14 +280,16 @@ def main():
         found, of_text = examples_of(text)
         wrong += of_text
         runs += [(it, "whole") for it in found] + [(it, "apart") for it in found if it.keeps_a_file()]
+        runs += [(it, "served") for it in found if it.keeps_a_file() and any(step.served(0) for step in it.steps)]
         runs += [(it, "script") for it in found if it.is_script()]
     with concurrent.futures.ThreadPoolExecutor(os.cpu_count()) as pool:
-        told = [*pool.map(lambda it: run(program, *it), runs)]
+        done = [*pool.map(lambda it: run(program, *it), runs)]
+    told = [lines for lines, _ in done]
     for line in [*wrong, *[line for it in told for line in it]]:
         print(line)
     commands = sum(len(it.steps) for it, _ in runs)
     failed = len(wrong) + sum(1 for it in told if it)
-    print(f"{len(every)} texts and pages, {commands} commands, {time.monotonic() - began:.0f} seconds")
+    print(f"{len(every)} texts and pages, {commands} commands, {sum(asked for _, asked in done)} of them asked of a server, {time.monotonic() - began:.0f} seconds")
     print(f"{len(runs) - sum(1 for it in told if it)} passed, {failed} failed")
     return 1 if failed else 0
 
