@@ -56,11 +56,11 @@ class Step:
         return name and name[1]
 
     def served(self, port):
-        """The command as it is asked of the server at the port, if it can be. A word in quotes is not sent, nor is one that waits for the file."""
+        """The command as it is asked of the server at the port, if it can be. A word in quotes is not sent, nor is a wait for the file or a time zone."""
         named = re.findall(r"\bftd ([a-z-]+)(?: --db office\.db)?", self.command)
         asked = self.command.replace(" --db office.db", f" --at {port}")
         is_sent = named and not any(re.fullmatch(r"serve|shell|plain|help|import.*", it) for it in named)
-        is_all = len(named) == self.command.count(" --db office.db") and not re.search(r"office\.db|FTD_DB|--wait|--at=|\bftd [^|;&>]*['\"$]", asked.replace(f"--at {port}", ""))
+        is_all = len(named) == self.command.count(" --db office.db") and not re.search(r"office\.db|FTD_DB|TZ=|--wait|--at=|\bftd [^|;&>]*['\"$]", asked.replace(f"--at {port}", ""))
         return asked if is_sent and is_all else None
 
     def shell_line(self):
