@@ -1,6 +1,6 @@
 //! What is left of the deposits of an account that are due on a day is recorded as paid.
 
-ghost use Rattle.std.specs.Prelude.{◌≡◌, ◌∷◌, [], Err, IfErr, IfOk, option_map};
+ghost use Rattle.std.specs.Prelude.{◌≡◌, Err, IfErr, IfOk, option_map};
 ghost use Rattle.std.specs.List.{list_any};
 ghost use Rattle.ftd_machine.specs.Runs.{IsFault};
 ghost use Rattle.ftd_machine.specs.declared.requests.Request.TheVariants.{Pay};
@@ -20,7 +20,7 @@ use crate::performing::{JobEnd, fail_output, print_answer, print_refusal};
 use crate::record_notes::same_name;
 use ftd_answers::{Format, ListFormat, day_bytes, left_of};
 use ftd_cli::Settlement;
-use ftd_days::{Cents, Day};
+use ftd_days::Day;
 use ftd_desk::Desk;
 use ftd_machine::{
     AccountName, AgendaRow, Answer, Facts, KeptList, Question, Refusal, Reply, Request,
