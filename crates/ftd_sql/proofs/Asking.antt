@@ -33,7 +33,7 @@ unfolding everything
 lists_metas = record {
   reads = record { read = _; is = refl; said = refl; untimed = refl; whole = refl };
   opens = record { whole = refl; first = refl };
-  resolves = λ tree. record {
+  resolves = λ tree low. record {
     filters = _;
     grouped = false;
     keys = _;
@@ -61,7 +61,7 @@ unfolding everything
 reads_account = record {
   reads = record { read = _; is = refl; said = refl; untimed = refl; whole = refl };
   opens = record { whole = refl; first = refl };
-  resolves = λ tree. record {
+  resolves = λ tree low. record {
     filters = _;
     grouped = false;
     keys = _;
@@ -89,7 +89,7 @@ unfolding everything
 lists_accounts = record {
   reads = record { read = _; is = refl; said = refl; untimed = refl; whole = refl };
   opens = record { whole = refl; first = refl };
-  resolves = λ tree. record {
+  resolves = λ tree low. record {
     filters = _;
     grouped = false;
     keys = _;
@@ -117,7 +117,7 @@ unfolding everything
 reads_form = record {
   reads = record { read = _; is = refl; said = refl; untimed = refl; whole = refl };
   opens = record { whole = refl; first = refl };
-  resolves = λ tree. record {
+  resolves = λ tree low. record {
     filters = _;
     grouped = false;
     keys = _;
@@ -146,7 +146,7 @@ unfolding everything
 reads_reported = record {
   reads = record { read = _; is = refl; said = refl; untimed = refl; whole = refl };
   opens = record { whole = refl; first = refl };
-  resolves = λ tree. record {
+  resolves = λ tree low. record {
     filters = _;
     grouped = false;
     keys = _;
@@ -174,7 +174,7 @@ unfolding everything
 reads_reported_year = record {
   reads = record { read = _; is = refl; said = refl; untimed = refl; whole = refl };
   opens = record { whole = refl; first = refl };
-  resolves = λ tree. record {
+  resolves = λ tree low. record {
     filters = _;
     grouped = false;
     keys = _;
@@ -202,7 +202,7 @@ unfolding everything
 reads_calendar_year = record {
   reads = record { read = _; is = refl; said = refl; untimed = refl; whole = refl };
   opens = record { whole = refl; first = refl };
-  resolves = λ tree. record {
+  resolves = λ tree low. record {
     filters = _;
     grouped = false;
     keys = _;
@@ -230,7 +230,7 @@ unfolding everything
 lists_holidays = record {
   reads = record { read = _; is = refl; said = refl; untimed = refl; whole = refl };
   opens = record { whole = refl; first = refl };
-  resolves = λ tree. record {
+  resolves = λ tree low. record {
     filters = _;
     grouped = false;
     keys = _;
@@ -258,7 +258,7 @@ unfolding everything
 lists_added_holidays = record {
   reads = record { read = _; is = refl; said = refl; untimed = refl; whole = refl };
   opens = record { whole = refl; first = refl };
-  resolves = λ tree. record {
+  resolves = λ tree low. record {
     filters = _;
     grouped = false;
     keys = _;
@@ -287,7 +287,7 @@ unfolding everything
 lists_years = record {
   reads = record { read = _; is = refl; said = refl; untimed = refl; whole = refl };
   opens = record { whole = refl; first = refl };
-  resolves = λ tree. record {
+  resolves = λ tree low. record {
     filters = _;
     grouped = false;
     keys = _;
@@ -316,7 +316,7 @@ unfolding everything
 reads_run = record {
   reads = record { read = _; is = refl; said = refl; untimed = refl; whole = refl };
   opens = record { whole = refl; first = refl };
-  resolves = λ tree. record {
+  resolves = λ tree low. record {
     filters = _;
     grouped = false;
     keys = _;
@@ -346,7 +346,7 @@ unfolding everything
 lists_runs = record {
   reads = record { read = _; is = refl; said = refl; untimed = refl; whole = refl };
   opens = record { whole = refl; first = refl };
-  resolves = λ tree. record {
+  resolves = λ tree low. record {
     filters = _;
     grouped = false;
     keys = _;
@@ -375,7 +375,7 @@ unfolding everything
 reads_payment = record {
   reads = record { read = _; is = refl; said = refl; untimed = refl; whole = refl };
   opens = record { whole = refl; first = refl };
-  resolves = λ tree. record {
+  resolves = λ tree low. record {
     filters = _;
     grouped = false;
     keys = _;
@@ -404,7 +404,7 @@ unfolding everything
 lists_payments = record {
   reads = record { read = _; is = refl; said = refl; untimed = refl; whole = refl };
   opens = record { whole = refl; first = refl };
-  resolves = λ tree. record {
+  resolves = λ tree low. record {
     filters = _;
     grouped = false;
     keys = _;
@@ -434,7 +434,7 @@ unfolding everything
 lists_obligations = record {
   reads = record { read = _; is = refl; said = refl; untimed = refl; whole = refl };
   opens = record { whole = refl; first = refl };
-  resolves = λ tree. record {
+  resolves = λ tree low. record {
     filters = _;
     grouped = false;
     keys = _;
@@ -464,7 +464,7 @@ unfolding everything
 lists_due_over = record {
   reads = record { read = _; is = refl; said = refl; untimed = refl; whole = refl };
   opens = record { whole = refl; first = refl };
-  resolves = λ tree. record {
+  resolves = λ tree low. record {
     filters = _;
     grouped = false;
     keys = _;
@@ -493,7 +493,7 @@ unfolding everything
 lists_due_between = record {
   reads = record { read = _; is = refl; said = refl; untimed = refl; whole = refl };
   opens = record { whole = refl; first = refl };
-  resolves = λ tree. record {
+  resolves = λ tree low. record {
     filters = _;
     grouped = false;
     keys = _;
@@ -521,7 +521,7 @@ unfolding everything
 lists_enrolled = record {
   reads = record { read = _; is = refl; said = refl; untimed = refl; whole = refl };
   opens = record { whole = refl; first = refl };
-  resolves = λ tree. record {
+  resolves = λ tree low. record {
     filters = _;
     grouped = false;
     keys = _;
@@ -549,7 +549,7 @@ unfolding everything
 lists_forms = record {
   reads = record { read = _; is = refl; said = refl; untimed = refl; whole = refl };
   opens = record { whole = refl; first = refl };
-  resolves = λ tree. record {
+  resolves = λ tree low. record {
     filters = _;
     grouped = false;
     keys = _;
@@ -577,7 +577,7 @@ unfolding everything
 lists_reported = record {
   reads = record { read = _; is = refl; said = refl; untimed = refl; whole = refl };
   opens = record { whole = refl; first = refl };
-  resolves = λ tree. record {
+  resolves = λ tree low. record {
     filters = _;
     grouped = false;
     keys = _;
@@ -605,7 +605,7 @@ unfolding everything
 lists_reported_years = record {
   reads = record { read = _; is = refl; said = refl; untimed = refl; whole = refl };
   opens = record { whole = refl; first = refl };
-  resolves = λ tree. record {
+  resolves = λ tree low. record {
     filters = _;
     grouped = false;
     keys = _;
@@ -635,7 +635,7 @@ unfolding everything
 lists_kept_runs = record {
   reads = record { read = _; is = refl; said = refl; untimed = refl; whole = refl };
   opens = record { whole = refl; first = refl };
-  resolves = λ tree. record {
+  resolves = λ tree low. record {
     filters = _;
     grouped = false;
     keys = _;
@@ -665,7 +665,7 @@ unfolding everything
 lists_kept_payments = record {
   reads = record { read = _; is = refl; said = refl; untimed = refl; whole = refl };
   opens = record { whole = refl; first = refl };
-  resolves = λ tree. record {
+  resolves = λ tree low. record {
     filters = _;
     grouped = false;
     keys = _;
@@ -694,7 +694,7 @@ unfolding everything
 lists_corrections = record {
   reads = record { read = _; is = refl; said = refl; untimed = refl; whole = refl };
   opens = record { whole = refl; first = refl };
-  resolves = λ tree. record {
+  resolves = λ tree low. record {
     filters = _;
     grouped = false;
     keys = _;
@@ -722,7 +722,7 @@ unfolding everything
 lists_year_corrections = record {
   reads = record { read = _; is = refl; said = refl; untimed = refl; whole = refl };
   opens = record { whole = refl; first = refl };
-  resolves = λ tree. record {
+  resolves = λ tree low. record {
     filters = _;
     grouped = false;
     keys = _;
@@ -750,7 +750,7 @@ unfolding everything
 lists_account_corrections = record {
   reads = record { read = _; is = refl; said = refl; untimed = refl; whole = refl };
   opens = record { whole = refl; first = refl };
-  resolves = λ tree. record {
+  resolves = λ tree low. record {
     filters = _;
     grouped = false;
     keys = _;
@@ -778,7 +778,7 @@ unfolding everything
 lists_changed_holidays = record {
   reads = record { read = _; is = refl; said = refl; untimed = refl; whole = refl };
   opens = record { whole = refl; first = refl };
-  resolves = λ tree. record {
+  resolves = λ tree low. record {
     filters = _;
     grouped = false;
     keys = _;

@@ -26,7 +26,9 @@ pub mod Writing
 pub mod Shapes
 pub mod Reading
 pub mod Asking
+pub mod AskingAdded
 pub mod Changing
 pub mod Meanings
+pub mod RowOrder
 pub mod Making
 pub mod IndexTexts

@@ -2,7 +2,7 @@
 use Rattle.std.proofs.Common.{◌≡◌, ℕ, zero, suc, List, [], ◌∷◌, codes, Option, Some, None, Ok, Err}
 use Rattle.std.proofs.Common.{refl, sym, ap, cond, ◌∙◌, Bool, true, false, slice_get}
 use Rattle.std.specs.Prelude.{is_some, ◌&&◌, option_and_then, option_map, unwrap_or, if◌then◌else◌}
-use Rattle.std.specs.Prelude.{◌==◌}
+use Rattle.std.specs.Prelude.{◌==◌, ◌||◌, ◌^◌, nat_lt}
 use Rattle.std.proofs.lemmas.Bool.{and_parts}
 use Rattle.sqlite.specs.Schema.{Schema}
 use Rattle.sqlite.specs.Table.{Table}
@@ -20,7 +20,7 @@ use Rattle.sqlite_resolve.specs.declared.scope.Bound.{Bound}
 use Rattle.sqlite_resolve.specs.declared.scope.Level.{Level}
 use Rattle.sqlite_resolve.specs.Lowering.{Checked, and_then, Lowering, ◌>>=◌, ◌>>◌, pure, spend}
 use Rattle.sqlite_resolve.specs.Lowering.{begin, finish, last, chosen}
-use Rattle.sqlite_resolve.specs.Scope.{Name, Context, column}
+use Rattle.sqlite_resolve.specs.Scope.{Name, Context, column, is_rowid}
 use Rattle.sqlite_resolve.specs.Compare.{of_column, compared, affinity_of, at_place, of_declared}
 use Rattle.sqlite_resolve.specs.Compare.{or_else}
 use Rattle.sqlite_resolve.specs.declared.compare.Affinity.{Affinity}
@@ -64,9 +64,13 @@ say (Whole text) = e.Integer text
 say Rows = e.CallStar (codes "COUNT")
 say (Two op a b) = e.Binary (word op) (say a) (say b)
 
--- each column is one of the table
+-- the name is that of the rowid, which a table has whose rows are kept in the file
+abbrev pub knows_rowid : Table → List ℕ → Bool
+knows_rowid t name = is_rowid name && nat_lt t.tree (2 ^ 31)
+
+-- each column is one of the table, or its rowid
 abbrev pub knows : Table → Phrase → Bool
-knows t (Column name) = is_some (column_named t name)
+knows t (Column name) = is_some (column_named t name) || knows_rowid t name
 knows t (Given n) = true
 knows t (Whole text) = true
 knows t Rows = true
@@ -109,14 +113,17 @@ Alike p q = (st : State) → p st ≡ q st
 
 module _ (s : Schema) (at : ℕ) (t : Table) (listed : slice_get s.tables at ≡ Some t) (name : Name)
     (shown : List Output) (may : Bool) where
-  column_by : (c : Name) (st : State) (o : Option ℕ) → column_named t c ≡ o → is_some o ≡ true
-      → column (here s at name shown may) None c st ≡ column (here (alone t) 0 name shown may) None
+  column_by : (c : Name) (st : State) (o : Option ℕ) → column_named t c ≡ o
+      → (is_some o || knows_rowid t c) ≡ true → column (here s at name shown may) None c st ≡ column (here (alone t) 0 name shown may) None
       c st
   unfolding everything
   column_by c st (Some k) is h = rw (listed, is, listed) refl
-  column_by c st None is h = absurd cc
+  column_by c st None is h =
+      let named = (and_parts (is_rowid c) (nat_lt t.tree (2 ^ 31)) h).0 in
+      let low = (and_parts (is_rowid c) (nat_lt t.tree (2 ^ 31)) h).1 in
+      rw (listed, is, named, low) refl
 
-  pub column_same : (c : Name) → is_some (column_named t c) ≡ true
+  pub column_same : (c : Name) → knows t (Column c) ≡ true
       → Alike (column (here s at name shown may) None c)
       (column (here (alone t) 0 name shown may) None c)
   column_same c known st = column_by c st (column_named t c) refl known

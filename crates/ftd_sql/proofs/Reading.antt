@@ -1,17 +1,21 @@
 -- What a reading of one of the desk's tables shows of its rows, from what its text computes to.
 use Rattle.std.proofs.Common.{◌≡◌, ℕ, ℤ, pos, List, [], ◌∷◌, codes, length, map, Bool, false}
-use Rattle.std.proofs.Common.{Option, refl, sym, subst}
-use Rattle.std.specs.Prelude.{filter, min, ⊤}
+use Rattle.std.proofs.Common.{Option, refl, sym, subst, arith, true}
+use Rattle.std.specs.Prelude.{filter, min, ⊤, nat_lt, ◌^◌}
 use Rattle.std.specs.Ordering.{is_lt}
 use Rattle.std.specs.List.Sorted.{IsPermutation}
 use Rattle.std.proofs.lemmas.List.Sorted.{IsPermutation-map}
+use Rattle.std.proofs.lemmas.Bool.Decides.{nat_tests}
 use Rattle.ftd_sql.proofs.Shapes.{Place, Test, where_of, shown_of, order_of, filters_of}
 use Rattle.ftd_sql.proofs.Shapes.{project_of, outs_of, keys_of, draft_of, count_out, count_draft}
+use Rattle.ftd_sql.proofs.Shapes.{by_rowid}
 use Rattle.sqlite.specs.declared.types.Value.TheVariants.{Null, Int}
 use Rattle.sqlite.specs.Order.{Row}
 use Rattle.sqlite.specs.Schema.{Schema}
+use Rattle.sqlite.specs.Table.{Table}
+use Rattle.sqlite.specs.Program.{overlay}
 use Rattle.sqlite.specs.Term.{eval_all}
-use Rattle.sqlite.specs.Query.{Query, output, output_cmp}
+use Rattle.sqlite.specs.Query.{Query, IsAnswer, output, output_cmp}
 use Rattle.sqlite.specs.Command.TheVariants.{Select}
 use Rattle.sqlite.specs.State.{State, Shown}
 use Rattle.sqlite.proofs.Callers.{reads_as}
@@ -26,7 +30,7 @@ use Rattle.ftd_sql.specs.Order.{EachToNext}
 use Rattle.ftd_sql.specs.Places.{IsAt, Holds}
 use Rattle.ftd_sql.specs.TextKinds.{IsReadText}
 use Rattle.ftd_sql.proofs.Counting.{count_query, counts_rows, greatest_count}
-use Rattle.ftd_sql.proofs.InOrder.{shows_in_order}
+use Rattle.ftd_sql.proofs.InOrder.{shows_in_order, shows_in_row_order}
 use Rattle.ftd_sql.proofs.KeptLemmas.{plain_query}
 use Rattle.ftd_sql.specs.TextKinds.{IsReadAs}
 use Rattle.ftd_sql.proofs.Meaning.{IsAccepted, Means}
@@ -52,8 +56,9 @@ pub record Asks (n : TableName) (text : List ℕ) (columns : List Place) (tests 
   pub reads : IsReadAs text
       (written.Select (a_select (name_of n) (shown_of columns) (where_of tests) (order_of order)))
   pub opens : Opens (name_of n) (shown_of columns) (where_of tests) (order_of order)
-  pub resolves : (tree : ℕ) → Resolves (table_of n tree) (name_of n) (shown_of columns)
-      (where_of tests) (order_of order) (outs_of columns) (draft_of columns tests order tree)
+  pub resolves : (tree : ℕ) → nat_lt tree (2 ^ 31) ≡ true → Resolves (table_of n tree) (name_of n)
+      (shown_of columns) (where_of tests) (order_of order) (outs_of columns)
+      (draft_of columns tests order tree)
   pub accepted : (tree : ℕ) → IsAccepted (table_of n tree)
       (query_of (draft_of columns tests order tree))
   pub is_query : (tree : ℕ) → query_of (draft_of columns tests order tree) ≡ plain_query tree
@@ -80,6 +85,10 @@ means n text columns test order outs draft query s at tree reads opens resolves 
     (a_select (name_of n) columns test order) (core (name_of n) columns test) outs draft place reads
     opens.whole opens.first resolves accepted)
 
+is_low : (s : Schema) (name : List ℕ) (t : Table) (at : ℕ) → IsAt s name t at
+    → nat_lt t.tree (2 ^ 31) ≡ true
+is_low s name t at place = let low = place.low in grind (arith, nat_tests)
+
 -- ---- what a reading shows
 
 module _ (n : TableName) (text : List ℕ) (columns : List Place) (tests : List Test)
@@ -104,12 +113,25 @@ module _ (n : TableName) (text : List ℕ) (columns : List Place) (tests : List 
         × EachToNext R ys
     lists R rises =
         let s = old.now.schema in
-        let m = means n text _ _ _ _ _ _ s l.at l.tree a.reads a.opens (a.resolves l.tree)
-        (a.accepted l.tree) (a.is_query l.tree) l.place in
+        let m = means n text _ _ _ _ _ _ s l.at l.tree a.reads a.opens (a.resolves l.tree
+        (is_low s (name_of n) (table_of n l.tree) l.at l.place)) (a.accepted l.tree) (a.is_query l.tree) l.place in
         let read = reads_as text params old new s refl _ m.is m.plain m.unlisted rows h in
         shows_in_order old _ _ (cells_of n) shown xs test R l (filters_of tests)
         (project_of columns) (keys_of order) params rows tested seen (rises l.tree)
         (read.answer Null)
+
+    -- in the order in which the rows were added
+    pub in_row_order : order ≡ by_rowid → rows ≡ map shown (filter test xs)
+    in_row_order is =
+        let s = old.now.schema in
+        let m = means n text _ _ _ _ _ _ s l.at l.tree a.reads a.opens (a.resolves l.tree
+        (is_low s (name_of n) (table_of n l.tree) l.at l.place)) (a.accepted l.tree)
+        (a.is_query l.tree) l.place in
+        let read = reads_as text params old new s refl _ m.is m.plain m.unlisted rows h in
+        shows_in_row_order old _ _ (cells_of n) shown xs test l (filters_of tests)
+        (project_of columns) params rows tested seen
+        (subst (λ o. IsAnswer (plain_query l.tree (filters_of tests) (project_of columns)
+        (keys_of o)) (overlay old.now.trees []) params rows) is (read.answer Null))
 
     -- in whatever order
     pub shows : IsPermutation (map shown (filter test xs)) rows

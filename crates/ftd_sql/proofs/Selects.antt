@@ -1,7 +1,7 @@
 -- What a SELECT on one table means, wherever the table stands.
 use Rattle.std.proofs.Common.{◌≡◌, ℕ, List, [], ◌∷◌, ◌++◌, map, Option, Some, None, Ok, refl, ap}
 use Rattle.std.proofs.Common.{◌∙◌, Bool, true, false, slice_get, length, negsuc}
-use Rattle.std.specs.Prelude.{not, is_some, ◌&&◌, ◌==◌}
+use Rattle.std.specs.Prelude.{not, is_some, ◌&&◌, ◌||◌, ◌^◌, nat_lt, ◌==◌}
 use Rattle.std.proofs.lemmas.Bool.{and_parts}
 use Rattle.sqlite.specs.Schema.{Schema}
 use Rattle.sqlite.specs.Table.{Table}
@@ -33,7 +33,7 @@ use Rattle.sqlite_resolve.specs.declared.scope.Bound.{Bound}
 use Rattle.sqlite_resolve.specs.declared.select.Clauses.{Clauses}
 use Rattle.sqlite_resolve.specs.declared.body.Body.{Body}
 use Rattle.sqlite_resolve.specs.Lowering.{◌>>=◌, pure, fresh, max_budget, last}
-use Rattle.sqlite_resolve.specs.Scope.{Name}
+use Rattle.sqlite_resolve.specs.Scope.{Name, is_rowid}
 use Rattle.sqlite_resolve.specs.Terms.{number}
 use Rattle.sqlite_resolve.specs.Body.{body, outputs, outputs_from, shown, is_column, tests, heading}
 use Rattle.sqlite_resolve.specs.Order
@@ -47,8 +47,8 @@ use Rattle.ftd_sql.specs.TextKinds.{IsReadAs}
 use Rattle.ftd_sql.proofs.Meaning.{IsAccepted, Means, means, program_is}
 use Rattle.sqlite_tied.specs.Compute.{everything}
 use Rattle.ftd_sql.proofs.Opened.{opened_ast, opened_select, opened_query}
-use Rattle.ftd_sql.proofs.Phrase.{Phrase, Column, Given, Whole, Rows, Two, say, knows, here}
-use Rattle.ftd_sql.proofs.Phrase.{alone, Alike, bind_same, lower_same}
+use Rattle.ftd_sql.proofs.Phrase.{Phrase, Column, Given, Whole, Rows, Two, say, knows, knows_rowid}
+use Rattle.ftd_sql.proofs.Phrase.{here, alone, Alike, bind_same, lower_same}
 
 -- a column of the result with no alias: the expression and its text
 abbrev pub show : Phrase × List ℕ → Shown
@@ -205,12 +205,15 @@ peeled_is (Two op a b) = refl
 
 module _ (s : Schema) (at : ℕ) (t : Table) (listed : slice_get s.tables at ≡ Some t)
     (name : Name) where
-  heading_by : (may : Bool) (c text : Name) (o : Option ℕ) → column_named t c ≡ o → is_some o ≡ true
-      → heading (here s at name [] may) (say (Column c)) text ≡ heading
+  heading_by : (may : Bool) (c text : Name) (o : Option ℕ) → column_named t c ≡ o
+      → (is_some o || knows_rowid t c) ≡ true → heading (here s at name [] may) (say (Column c)) text ≡ heading
       (here (alone t) 0 name [] may) (say (Column c)) text
   unfolding everything
   heading_by may c text (Some k) is h = rw (listed, is, listed) refl
-  heading_by may c text None is h = absurd cc
+  heading_by may c text None is h =
+      let named = (and_parts (is_rowid c) (nat_lt t.tree (2 ^ 31)) h).0 in
+      let low = (and_parts (is_rowid c) (nat_lt t.tree (2 ^ 31)) h).1 in
+      rw (listed, is, named, low, listed) refl
 
   heading_same : (may : Bool) (p : Phrase) (text : Name) → knows t p ≡ true
       → heading (here s at name [] may) (say p) text ≡ heading (here (alone t) 0 name [] may)

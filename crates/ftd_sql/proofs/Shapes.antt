@@ -27,6 +27,10 @@ pub record Place : Type 0 where
 abbrev pub place : List ℕ → ℕ → Place
 place name at = record { name = name; at = at }
 
+-- the order in which the rows were added: a row is stored with its rowid before its cells
+abbrev pub by_rowid : List Place
+by_rowid = place (codes "rowid") 0 ∷ []
+
 -- what a column is compared with: the value of a place, from 1, or zero
 pub data Other : Type 0 where
   Value : ℕ → Other

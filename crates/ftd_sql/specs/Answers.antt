@@ -49,6 +49,13 @@ correction_of_year_shown c = Int c.number ∷ Int c.cents ∷ []
 abbrev pub account_correction_shown : CorrectedAccountRow → Row
 account_correction_shown c = Int c.number ∷ Int c.start ∷ Int c.carried ∷ []
 
+-- a correction in a list of all that an account has of its quarters, and of its years
+abbrev pub quarter_correction_shown : CorrectedQuarterRow → Row
+quarter_correction_shown c = Int c.year ∷ Int c.quarter ∷ correction_shown c
+
+abbrev pub year_correction_shown : CorrectedYearRow → Row
+year_correction_shown c = Int c.year ∷ correction_of_year_shown c
+
 abbrev pub calendar_year_shown : CalendarYearRow → Row
 calendar_year_shown c = Int c.year ∷ []
 
@@ -57,6 +64,13 @@ holiday_shown h = Int h.day ∷ []
 
 abbrev pub holiday_change_shown : ChangedHolidayRow → Row
 holiday_change_shown h = Int h.day ∷ Int h.number ∷ Int h.is_holiday ∷ []
+
+-- a holiday with its year, and a change of a day with its year
+abbrev pub year_holiday_shown : HolidayRow → Row
+year_holiday_shown h = Int h.day ∷ Int h.year ∷ []
+
+abbrev pub year_holiday_change_shown : ChangedHolidayRow → Row
+year_holiday_change_shown h = Int h.day ∷ Int h.number ∷ Int h.is_holiday ∷ Int h.year ∷ []
 
 abbrev pub year_shown : YearRow → Row
 year_shown y = Int y.year ∷ Int y.lookback ∷ Int y.opening ∷ or_null Int y.turn ∷ []

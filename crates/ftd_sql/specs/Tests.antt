@@ -49,6 +49,12 @@ is_correction account year quarter c =
 abbrev pub is_year_correction : List ℕ → ℤ → CorrectedYearRow → Bool
 is_year_correction account year c = bytes_eq c.account account && int_eq c.year year
 
+abbrev pub is_correction_of : List ℕ → CorrectedQuarterRow → Bool
+is_correction_of account c = bytes_eq c.account account
+
+abbrev pub is_year_correction_of : List ℕ → CorrectedYearRow → Bool
+is_year_correction_of account c = bytes_eq c.account account
+
 -- a correction of the account itself
 abbrev pub is_account_correction_of : List ℕ → CorrectedAccountRow → Bool
 is_account_correction_of account c = bytes_eq c.account account
@@ -115,6 +121,10 @@ is_obligation_between account from to o =
 
 abbrev pub is_obligation : List ℕ → ℤ → ObligationRow → Bool
 is_obligation account first o = bytes_eq o.account account && int_eq o.first first
+
+-- each obligation of the account
+abbrev pub is_obligation_of_account : List ℕ → ObligationRow → Bool
+is_obligation_of_account account o = bytes_eq o.account account
 
 -- an obligation, of whatever account, that begins before the day and is due on it or later
 abbrev pub is_due_over : ℤ → ObligationRow → Bool

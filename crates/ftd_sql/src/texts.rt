@@ -21,12 +21,19 @@ pub const LIST_ACCOUNTS: &str = "SELECT name FROM account";
 pub const LIST_ENROLLED: &str = "SELECT name, start, carried FROM account ORDER BY name";
 /// Adds an account.
 pub const ADD_ACCOUNT: &str = "INSERT INTO account (name, start, carried) VALUES (?1, ?2, ?3)";
+/// All accounts in the order in which they were added.
+pub const LIST_ACCOUNTS_BY_ROW: &str = "SELECT name, start, carried FROM account ORDER BY rowid";
 /// The form of an account.
 pub const READ_FORM: &str = "SELECT form FROM account_form WHERE account = ?1";
 /// The forms of all accounts, by account.
 pub const LIST_FORMS: &str = "SELECT account, form FROM account_form ORDER BY account";
 /// Adds the form of an account.
 pub const ADD_FORM: &str = "INSERT INTO account_form (account, form) VALUES (?1, ?2)";
+/// The forms of an account in the order in which they were added.
+pub const LIST_FORMS_BY_ROW: &str =
+    "SELECT form FROM account_form WHERE account = ?1 ORDER BY rowid";
+/// How many forms all accounts have.
+pub const COUNT_ALL_FORMS: &str = "SELECT COUNT(*) FROM account_form";
 
 // ---- reported and reported_year
 
@@ -39,6 +46,11 @@ pub const LIST_REPORTED: &str =
 /// Adds the total of a quarter.
 pub const ADD_REPORTED: &str =
     "INSERT INTO reported (account, cal_year, quarter, cents) VALUES (?1, ?2, ?3, ?4)";
+/// The totals that an account reported for quarters in the order in which they were added.
+pub const LIST_REPORTED_BY_ROW: &str =
+    "SELECT cal_year, quarter, cents FROM reported WHERE account = ?1 ORDER BY rowid";
+/// How many totals all accounts reported for quarters.
+pub const COUNT_ALL_REPORTED: &str = "SELECT COUNT(*) FROM reported";
 /// The total that an account reported for a year.
 pub const READ_REPORTED_YEAR: &str =
     "SELECT cents FROM reported_year WHERE account = ?1 AND cal_year = ?2";
@@ -48,6 +60,11 @@ pub const LIST_REPORTED_YEARS: &str =
 /// Adds the total of a year.
 pub const ADD_REPORTED_YEAR: &str =
     "INSERT INTO reported_year (account, cal_year, cents) VALUES (?1, ?2, ?3)";
+/// The totals that an account reported for years in the order in which they were added.
+pub const LIST_REPORTED_YEARS_BY_ROW: &str =
+    "SELECT cal_year, cents FROM reported_year WHERE account = ?1 ORDER BY rowid";
+/// How many totals all accounts reported for years.
+pub const COUNT_ALL_REPORTED_YEARS: &str = "SELECT COUNT(*) FROM reported_year";
 
 // ---- corrected, corrected_year and corrected_account: what was put right, by number
 
@@ -58,18 +75,35 @@ pub const LIST_CORRECTIONS: &str =
 /// Adds a correction of the total of a quarter.
 pub const ADD_CORRECTED: &str =
     "INSERT INTO corrected (account, cal_year, quarter, number, cents) VALUES (?1, ?2, ?3, ?4, ?5)";
+/// The corrections of the totals that an account reported for quarters, in the order in which they
+/// were added.
+pub const LIST_CORRECTIONS_BY_ROW: &str =
+    "SELECT cal_year, quarter, number, cents FROM corrected WHERE account = ?1 ORDER BY rowid";
+/// How many corrections there are of the totals that all accounts reported for quarters.
+pub const COUNT_ALL_CORRECTIONS: &str = "SELECT COUNT(*) FROM corrected";
 /// The corrections of the total that an account reported for a year, by number.
 pub const LIST_YEAR_CORRECTIONS: &str =
     "SELECT number, cents FROM corrected_year WHERE account = ?1 AND cal_year = ?2 ORDER BY number";
 /// Adds a correction of the total of a year.
 pub const ADD_CORRECTED_YEAR: &str =
     "INSERT INTO corrected_year (account, cal_year, number, cents) VALUES (?1, ?2, ?3, ?4)";
+/// The corrections of the totals that an account reported for years, in the order in which they
+/// were added.
+pub const LIST_YEAR_CORRECTIONS_BY_ROW: &str =
+    "SELECT cal_year, number, cents FROM corrected_year WHERE account = ?1 ORDER BY rowid";
+/// How many corrections there are of the totals that all accounts reported for years.
+pub const COUNT_ALL_YEAR_CORRECTIONS: &str = "SELECT COUNT(*) FROM corrected_year";
 /// The corrections of an account's first day, and of whether it was carried over, by number.
 pub const LIST_ACCOUNT_CORRECTIONS: &str =
     "SELECT number, start, carried FROM corrected_account WHERE account = ?1 ORDER BY number";
 /// Adds a correction of an account.
 pub const ADD_CORRECTED_ACCOUNT: &str =
     "INSERT INTO corrected_account (account, number, start, carried) VALUES (?1, ?2, ?3, ?4)";
+/// The corrections of an account in the order in which they were added.
+pub const LIST_ACCOUNT_CORRECTIONS_BY_ROW: &str =
+    "SELECT number, start, carried FROM corrected_account WHERE account = ?1 ORDER BY rowid";
+/// How many corrections all accounts have.
+pub const COUNT_ALL_ACCOUNT_CORRECTIONS: &str = "SELECT COUNT(*) FROM corrected_account";
 
 // ---- calendar_year, holiday, added_holiday and changed_holiday
 
@@ -77,21 +111,31 @@ pub const ADD_CORRECTED_ACCOUNT: &str =
 pub const READ_CALENDAR_YEAR: &str = "SELECT cal_year FROM calendar_year WHERE cal_year = ?1";
 /// Adds a year whose calendar is given.
 pub const ADD_CALENDAR_YEAR: &str = "INSERT INTO calendar_year (cal_year) VALUES (?1)";
+/// All years whose calendar is given, in the order in which they were added.
+pub const LIST_CALENDAR_YEARS_BY_ROW: &str = "SELECT cal_year FROM calendar_year ORDER BY rowid";
 /// The holidays first given for a year, by day.
 pub const LIST_HOLIDAYS: &str = "SELECT day FROM holiday WHERE cal_year = ?1 ORDER BY day";
 /// Adds a holiday that is given with its year.
 pub const ADD_HOLIDAY: &str = "INSERT INTO holiday (day, cal_year) VALUES (?1, ?2)";
+/// All holidays that were given with their years, in the order in which they were added.
+pub const LIST_HOLIDAYS_BY_ROW: &str = "SELECT day, cal_year FROM holiday ORDER BY rowid";
 /// The holidays added to a given year, by day.
 pub const LIST_ADDED_HOLIDAYS: &str =
     "SELECT day FROM added_holiday WHERE cal_year = ?1 ORDER BY day";
 /// Adds a holiday to a given year.
 pub const ADD_ADDED_HOLIDAY: &str = "INSERT INTO added_holiday (day, cal_year) VALUES (?1, ?2)";
+/// All holidays that were added to given years, in the order in which they were added.
+pub const LIST_ADDED_HOLIDAYS_BY_ROW: &str =
+    "SELECT day, cal_year FROM added_holiday ORDER BY rowid";
 /// The changes of the days of a given year, by day and number.
 pub const LIST_CHANGED_HOLIDAYS: &str =
     "SELECT day, number, is_holiday FROM changed_holiday WHERE cal_year = ?1 ORDER BY day, number";
 /// Adds a change of a day: that it is taken back as a holiday, or made one again.
 pub const ADD_CHANGED_HOLIDAY: &str =
     "INSERT INTO changed_holiday (day, number, is_holiday, cal_year) VALUES (?1, ?2, ?3, ?4)";
+/// All changes of days of given years, in the order in which they were added.
+pub const LIST_CHANGED_HOLIDAYS_BY_ROW: &str =
+    "SELECT day, number, is_holiday, cal_year FROM changed_holiday ORDER BY rowid";
 
 // ---- year
 
@@ -101,6 +145,11 @@ pub const LIST_YEARS: &str =
 /// Adds an open year.
 pub const ADD_YEAR: &str =
     "INSERT INTO year (account, cal_year, lookback, opening, turn) VALUES (?1, ?2, ?3, ?4, ?5)";
+/// The open years of an account in the order in which they were added.
+pub const LIST_YEARS_BY_ROW: &str =
+    "SELECT cal_year, lookback, opening, turn FROM year WHERE account = ?1 ORDER BY rowid";
+/// How many open years all accounts have.
+pub const COUNT_ALL_YEARS: &str = "SELECT COUNT(*) FROM year";
 /// Gives an open year of an account its figures anew, given as its row is.
 pub const SET_YEAR: &str =
     "UPDATE year SET lookback = ?3, opening = ?4, turn = ?5 WHERE account = ?1 AND cal_year = ?2";
@@ -123,6 +172,11 @@ pub const LIST_RUNS: &str = "SELECT payday, fit, ss, medicare FROM run \
 /// The runs of an account with a payday between two days, void ones too, by payday and number.
 pub const LIST_KEPT_RUNS: &str = "SELECT run, payday, fit, ss, medicare, voided FROM run \
      WHERE account = ?1 AND payday >= ?2 AND payday <= ?3 ORDER BY payday, run";
+/// The runs of an account, void ones too, in the order in which they were added.
+pub const LIST_RUNS_BY_ROW: &str =
+    "SELECT run, payday, fit, ss, medicare, voided FROM run WHERE account = ?1 ORDER BY rowid";
+/// How many runs all accounts have, void ones too.
+pub const COUNT_ALL_RUNS: &str = "SELECT COUNT(*) FROM run";
 
 // ---- payment
 
@@ -144,6 +198,11 @@ pub const LIST_PAYMENTS: &str = "SELECT for_day, paid, cents FROM payment \
 /// The payments of an account for days between two, void ones too, by that day and number.
 pub const LIST_KEPT_PAYMENTS: &str = "SELECT payment, paid, for_day, cents, voided FROM payment \
      WHERE account = ?1 AND for_day >= ?2 AND for_day <= ?3 ORDER BY for_day, payment";
+/// The payments of an account, void ones too, in the order in which they were added.
+pub const LIST_PAYMENTS_BY_ROW: &str =
+    "SELECT payment, paid, for_day, cents, voided FROM payment WHERE account = ?1 ORDER BY rowid";
+/// How many payments all accounts have, void ones too.
+pub const COUNT_ALL_PAYMENTS: &str = "SELECT COUNT(*) FROM payment";
 
 // ---- bucket: the obligations
 
@@ -165,6 +224,11 @@ pub const LIST_DUE_OVER: &str = "SELECT account, first_day, last_day, rule, cent
 pub const LIST_DUE_BETWEEN: &str =
     "SELECT account, first_day, last_day, rule, cents, due FROM bucket \
      WHERE due >= ?1 AND due <= ?2 ORDER BY account, first_day";
+/// The obligations of an account in the order in which they were added.
+pub const LIST_OBLIGATIONS_BY_ROW: &str =
+    "SELECT first_day, last_day, rule, cents, due FROM bucket WHERE account = ?1 ORDER BY rowid";
+/// How many obligations all accounts have.
+pub const COUNT_ALL_OBLIGATIONS: &str = "SELECT COUNT(*) FROM bucket";
 /// Gives the obligation of an account and a first day its other cells anew, given as its row is.
 pub const SET_OBLIGATION: &str = "UPDATE bucket SET last_day = ?3, rule = ?4, cents = ?5, due = ?6 \
      WHERE account = ?1 AND first_day = ?2";
