@@ -128,7 +128,8 @@ abbrev account_corrections_columns : List Place
 account_corrections_columns =
     place (codes "number") 2 ∷ place (codes "start") 3 ∷ place (codes "carried") 4 ∷ []
 
-pub rows_of_account_corrections : Asks CorrectedAccounts LIST_ACCOUNT_CORRECTIONS_BY_ROW.now account_corrections_columns of_account by_rowid
+pub rows_of_account_corrections : Asks CorrectedAccounts LIST_ACCOUNT_CORRECTIONS_BY_ROW.now
+    account_corrections_columns of_account by_rowid
 unfolding everything
 rows_of_account_corrections = record {
   reads = record { read = _; is = refl; said = refl; untimed = refl; whole = refl };
@@ -157,7 +158,8 @@ abbrev reported_columns : List Place
 reported_columns =
     place (codes "cal_year") 2 ∷ place (codes "quarter") 3 ∷ place (codes "cents") 4 ∷ []
 
-pub rows_of_reported : Asks ReportedQuarters LIST_REPORTED_BY_ROW.now reported_columns of_account by_rowid
+pub rows_of_reported : Asks ReportedQuarters LIST_REPORTED_BY_ROW.now reported_columns of_account
+    by_rowid
 unfolding everything
 rows_of_reported = record {
   reads = record { read = _; is = refl; said = refl; untimed = refl; whole = refl };
@@ -185,7 +187,8 @@ rows_of_reported = record {
 abbrev reported_years_columns : List Place
 reported_years_columns = place (codes "cal_year") 2 ∷ place (codes "cents") 3 ∷ []
 
-pub rows_of_reported_years : Asks ReportedYears LIST_REPORTED_YEARS_BY_ROW.now reported_years_columns of_account by_rowid
+pub rows_of_reported_years : Asks ReportedYears LIST_REPORTED_YEARS_BY_ROW.now
+    reported_years_columns of_account by_rowid
 unfolding everything
 rows_of_reported_years = record {
   reads = record { read = _; is = refl; said = refl; untimed = refl; whole = refl };
@@ -215,7 +218,8 @@ corrections_columns =
     place (codes "cal_year") 2 ∷ place (codes "quarter") 3 ∷ place (codes "number") 4
     ∷ place (codes "cents") 5 ∷ []
 
-pub rows_of_corrections : Asks CorrectedQuarters LIST_CORRECTIONS_BY_ROW.now corrections_columns of_account by_rowid
+pub rows_of_corrections : Asks CorrectedQuarters LIST_CORRECTIONS_BY_ROW.now corrections_columns
+    of_account by_rowid
 unfolding everything
 rows_of_corrections = record {
   reads = record { read = _; is = refl; said = refl; untimed = refl; whole = refl };
@@ -244,7 +248,8 @@ abbrev year_corrections_columns : List Place
 year_corrections_columns =
     place (codes "cal_year") 2 ∷ place (codes "number") 3 ∷ place (codes "cents") 4 ∷ []
 
-pub rows_of_year_corrections : Asks CorrectedYears LIST_YEAR_CORRECTIONS_BY_ROW.now year_corrections_columns of_account by_rowid
+pub rows_of_year_corrections : Asks CorrectedYears LIST_YEAR_CORRECTIONS_BY_ROW.now
+    year_corrections_columns of_account by_rowid
 unfolding everything
 rows_of_year_corrections = record {
   reads = record { read = _; is = refl; said = refl; untimed = refl; whole = refl };
@@ -272,7 +277,8 @@ rows_of_year_corrections = record {
 abbrev calendar_years_columns : List Place
 calendar_years_columns = place (codes "cal_year") 1 ∷ []
 
-pub rows_of_calendar_years : Asks CalendarYears LIST_CALENDAR_YEARS_BY_ROW.now calendar_years_columns [] by_rowid
+pub rows_of_calendar_years : Asks CalendarYears LIST_CALENDAR_YEARS_BY_ROW.now
+    calendar_years_columns [] by_rowid
 unfolding everything
 rows_of_calendar_years = record {
   reads = record { read = _; is = refl; said = refl; untimed = refl; whole = refl };
@@ -328,7 +334,8 @@ rows_of_holidays = record {
 abbrev added_holidays_columns : List Place
 added_holidays_columns = place (codes "day") 1 ∷ place (codes "cal_year") 2 ∷ []
 
-pub rows_of_added_holidays : Asks AddedHolidays LIST_ADDED_HOLIDAYS_BY_ROW.now added_holidays_columns [] by_rowid
+pub rows_of_added_holidays : Asks AddedHolidays LIST_ADDED_HOLIDAYS_BY_ROW.now
+    added_holidays_columns [] by_rowid
 unfolding everything
 rows_of_added_holidays = record {
   reads = record { read = _; is = refl; said = refl; untimed = refl; whole = refl };
@@ -358,7 +365,8 @@ holiday_changes_columns =
     place (codes "day") 1 ∷ place (codes "number") 2 ∷ place (codes "is_holiday") 3
     ∷ place (codes "cal_year") 4 ∷ []
 
-pub rows_of_holiday_changes : Asks ChangedHolidays LIST_CHANGED_HOLIDAYS_BY_ROW.now holiday_changes_columns [] by_rowid
+pub rows_of_holiday_changes : Asks ChangedHolidays LIST_CHANGED_HOLIDAYS_BY_ROW.now
+    holiday_changes_columns [] by_rowid
 unfolding everything
 rows_of_holiday_changes = record {
   reads = record { read = _; is = refl; said = refl; untimed = refl; whole = refl };
@@ -478,7 +486,8 @@ obligations_columns =
     place (codes "first_day") 2 ∷ place (codes "last_day") 3 ∷ place (codes "rule") 4
     ∷ place (codes "cents") 5 ∷ place (codes "due") 6 ∷ []
 
-pub rows_of_obligations : Asks Obligations LIST_OBLIGATIONS_BY_ROW.now obligations_columns of_account by_rowid
+pub rows_of_obligations : Asks Obligations LIST_OBLIGATIONS_BY_ROW.now obligations_columns
+    of_account by_rowid
 unfolding everything
 rows_of_obligations = record {
   reads = record { read = _; is = refl; said = refl; untimed = refl; whole = refl };

@@ -114,8 +114,9 @@ Alike p q = (st : State) → p st ≡ q st
 module _ (s : Schema) (at : ℕ) (t : Table) (listed : slice_get s.tables at ≡ Some t) (name : Name)
     (shown : List Output) (may : Bool) where
   column_by : (c : Name) (st : State) (o : Option ℕ) → column_named t c ≡ o
-      → (is_some o || knows_rowid t c) ≡ true → column (here s at name shown may) None c st ≡ column (here (alone t) 0 name shown may) None
-      c st
+      → (is_some o || knows_rowid t c) ≡ true
+      → column (here s at name shown may) None c st ≡ column (here (alone t) 0 name shown may)
+      None c st
   unfolding everything
   column_by c st (Some k) is h = rw (listed, is, listed) refl
   column_by c st None is h =

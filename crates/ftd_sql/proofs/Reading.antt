@@ -85,9 +85,10 @@ means n text columns test order outs draft query s at tree reads opens resolves 
     (a_select (name_of n) columns test order) (core (name_of n) columns test) outs draft place reads
     opens.whole opens.first resolves accepted)
 
-is_low : (s : Schema) (name : List ℕ) (t : Table) (at : ℕ) → IsAt s name t at
+-- the tree of a table that stands in the schema is one that is kept in the file
+pub is_low : {s : Schema} {name : List ℕ} {t : Table} {at : ℕ} → IsAt s name t at
     → nat_lt t.tree (2 ^ 31) ≡ true
-is_low s name t at place = let low = place.low in grind (arith, nat_tests)
+is_low place = let low = place.low in grind (arith, nat_tests)
 
 -- ---- what a reading shows
 
@@ -100,6 +101,14 @@ module _ (n : TableName) (text : List ℕ) (columns : List Place) (tests : List 
       (old new : State) (rows : List Row) (xs : List (RowOf n)) {acted : Bool}
       (l : Holds acted old.now (name_of n) (table_of n) (cells_of n) xs)
       (h : Shown text params old new rows) where
+    answered : IsAnswer (plain_query l.tree (filters_of tests) (project_of columns) (keys_of order))
+        (overlay old.now.trees []) params rows
+    answered =
+        let s = old.now.schema in
+        let m = means n text _ _ _ _ _ _ s l.at l.tree a.reads a.opens
+        (a.resolves l.tree (is_low l.place)) (a.accepted l.tree) (a.is_query l.tree) l.place in
+        (reads_as text params old new s refl _ m.is m.plain m.unlisted rows h).answer Null
+
     -- in an order in which each row follows from the one before
     pub lists : (R : RowOf n → RowOf n → Type 0)
         → ((tree : ℕ) (a b : RowOf n) (i j : ℤ)
@@ -112,26 +121,16 @@ module _ (n : TableName) (text : List ℕ) (columns : List Place) (tests : List 
         → (ys : List (RowOf n)) × IsPermutation (filter test xs) ys × (rows ≡ map shown ys)
         × EachToNext R ys
     lists R rises =
-        let s = old.now.schema in
-        let m = means n text _ _ _ _ _ _ s l.at l.tree a.reads a.opens (a.resolves l.tree
-        (is_low s (name_of n) (table_of n l.tree) l.at l.place)) (a.accepted l.tree) (a.is_query l.tree) l.place in
-        let read = reads_as text params old new s refl _ m.is m.plain m.unlisted rows h in
         shows_in_order old _ _ (cells_of n) shown xs test R l (filters_of tests)
-        (project_of columns) (keys_of order) params rows tested seen (rises l.tree)
-        (read.answer Null)
+        (project_of columns) (keys_of order) params rows tested seen (rises l.tree) answered
 
-    -- in the order in which the rows were added
+    -- by rowid, in the order in which the rows were added
     pub in_row_order : order ≡ by_rowid → rows ≡ map shown (filter test xs)
     in_row_order is =
-        let s = old.now.schema in
-        let m = means n text _ _ _ _ _ _ s l.at l.tree a.reads a.opens (a.resolves l.tree
-        (is_low s (name_of n) (table_of n l.tree) l.at l.place)) (a.accepted l.tree)
-        (a.is_query l.tree) l.place in
-        let read = reads_as text params old new s refl _ m.is m.plain m.unlisted rows h in
         shows_in_row_order old _ _ (cells_of n) shown xs test l (filters_of tests)
         (project_of columns) params rows tested seen
         (subst (λ o. IsAnswer (plain_query l.tree (filters_of tests) (project_of columns)
-        (keys_of o)) (overlay old.now.trees []) params rows) is (read.answer Null))
+        (keys_of o)) (overlay old.now.trees []) params rows) is answered)
 
     -- in whatever order
     pub shows : IsPermutation (map shown (filter test xs)) rows

@@ -86,35 +86,43 @@ filter_all (x ∷ xs) = ap (λ more. x ∷ more) (filter_all xs)
 pub accounts_in_row_order : IsAllInRowOrder Accounts LIST_ACCOUNTS_BY_ROW.now enrolled_shown
 unfolding everything
 accounts_in_row_order old new rows t stands h =
-    in_row_order Accounts LIST_ACCOUNTS_BY_ROW.now _ _ _ rows_of_accounts [] (λ x. true) enrolled_shown
+    in_row_order Accounts LIST_ACCOUNTS_BY_ROW.now _ _ _ rows_of_accounts [] (λ x. true)
+    enrolled_shown
     (λ p. refl) (λ p. refl) old new rows (t Accounts) (stands Accounts) h refl
     ∙ ap (map enrolled_shown) (filter_all (t Accounts))
 
-pub calendar_years_in_row_order : IsAllInRowOrder CalendarYears LIST_CALENDAR_YEARS_BY_ROW.now calendar_year_shown
+pub calendar_years_in_row_order : IsAllInRowOrder CalendarYears LIST_CALENDAR_YEARS_BY_ROW.now
+    calendar_year_shown
 unfolding everything
 calendar_years_in_row_order old new rows t stands h =
-    in_row_order CalendarYears LIST_CALENDAR_YEARS_BY_ROW.now _ _ _ rows_of_calendar_years [] (λ x. true) calendar_year_shown
+    in_row_order CalendarYears LIST_CALENDAR_YEARS_BY_ROW.now _ _ _ rows_of_calendar_years []
+    (λ x. true) calendar_year_shown
     (λ p. refl) (λ p. refl) old new rows (t CalendarYears) (stands CalendarYears) h refl
     ∙ ap (map calendar_year_shown) (filter_all (t CalendarYears))
 
 pub holidays_in_row_order : IsAllInRowOrder Holidays LIST_HOLIDAYS_BY_ROW.now year_holiday_shown
 unfolding everything
 holidays_in_row_order old new rows t stands h =
-    in_row_order Holidays LIST_HOLIDAYS_BY_ROW.now _ _ _ rows_of_holidays [] (λ x. true) year_holiday_shown
+    in_row_order Holidays LIST_HOLIDAYS_BY_ROW.now _ _ _ rows_of_holidays [] (λ x. true)
+    year_holiday_shown
     (λ p. refl) (λ p. refl) old new rows (t Holidays) (stands Holidays) h refl
     ∙ ap (map year_holiday_shown) (filter_all (t Holidays))
 
-pub added_holidays_in_row_order : IsAllInRowOrder AddedHolidays LIST_ADDED_HOLIDAYS_BY_ROW.now year_holiday_shown
+pub added_holidays_in_row_order : IsAllInRowOrder AddedHolidays LIST_ADDED_HOLIDAYS_BY_ROW.now
+    year_holiday_shown
 unfolding everything
 added_holidays_in_row_order old new rows t stands h =
-    in_row_order AddedHolidays LIST_ADDED_HOLIDAYS_BY_ROW.now _ _ _ rows_of_added_holidays [] (λ x. true) year_holiday_shown
+    in_row_order AddedHolidays LIST_ADDED_HOLIDAYS_BY_ROW.now _ _ _ rows_of_added_holidays []
+    (λ x. true) year_holiday_shown
     (λ p. refl) (λ p. refl) old new rows (t AddedHolidays) (stands AddedHolidays) h refl
     ∙ ap (map year_holiday_shown) (filter_all (t AddedHolidays))
 
-pub holiday_changes_in_row_order : IsAllInRowOrder ChangedHolidays LIST_CHANGED_HOLIDAYS_BY_ROW.now year_holiday_change_shown
+pub holiday_changes_in_row_order : IsAllInRowOrder ChangedHolidays LIST_CHANGED_HOLIDAYS_BY_ROW.now
+    year_holiday_change_shown
 unfolding everything
 holiday_changes_in_row_order old new rows t stands h =
-    in_row_order ChangedHolidays LIST_CHANGED_HOLIDAYS_BY_ROW.now _ _ _ rows_of_holiday_changes [] (λ x. true) year_holiday_change_shown
+    in_row_order ChangedHolidays LIST_CHANGED_HOLIDAYS_BY_ROW.now _ _ _ rows_of_holiday_changes []
+    (λ x. true) year_holiday_change_shown
     (λ p. refl) (λ p. refl) old new rows (t ChangedHolidays) (stands ChangedHolidays) h refl
     ∙ ap (map year_holiday_change_shown) (filter_all (t ChangedHolidays))
 
@@ -130,46 +138,58 @@ forms_in_row_order account old new rows t stands h =
     (stands Forms) h refl
 
 pub account_corrections_in_row_order : (account : List ℕ) → IsInRowOrder CorrectedAccounts
-    LIST_ACCOUNT_CORRECTIONS_BY_ROW.now (name_given account) (is_account_correction_of account) account_correction_shown
+    LIST_ACCOUNT_CORRECTIONS_BY_ROW.now (name_given account) (is_account_correction_of account)
+    account_correction_shown
 unfolding everything
 account_corrections_in_row_order account old new rows t stands h =
-    in_row_order CorrectedAccounts LIST_ACCOUNT_CORRECTIONS_BY_ROW.now _ _ _ rows_of_account_corrections (name_given account)
+    in_row_order CorrectedAccounts LIST_ACCOUNT_CORRECTIONS_BY_ROW.now _ _ _
+    rows_of_account_corrections (name_given account)
     (is_account_correction_of account) account_correction_shown
-    (λ p. one_passes _ _ (text_is p.1.account account)) (λ p. refl) old new rows (t CorrectedAccounts)
+    (λ p. one_passes _ _ (text_is p.1.account account)) (λ p. refl) old new rows
+    (t CorrectedAccounts)
     (stands CorrectedAccounts) h refl
 
 pub reported_in_row_order : (account : List ℕ) → IsInRowOrder ReportedQuarters
     LIST_REPORTED_BY_ROW.now (name_given account) (is_reported_of account) quarter_total_shown
 unfolding everything
 reported_in_row_order account old new rows t stands h =
-    in_row_order ReportedQuarters LIST_REPORTED_BY_ROW.now _ _ _ rows_of_reported (name_given account)
+    in_row_order ReportedQuarters LIST_REPORTED_BY_ROW.now _ _ _ rows_of_reported
+    (name_given account)
     (is_reported_of account) quarter_total_shown
-    (λ p. one_passes _ _ (text_is p.1.account account)) (λ p. refl) old new rows (t ReportedQuarters)
+    (λ p. one_passes _ _ (text_is p.1.account account)) (λ p. refl) old new rows
+    (t ReportedQuarters)
     (stands ReportedQuarters) h refl
 
 pub reported_years_in_row_order : (account : List ℕ) → IsInRowOrder ReportedYears
-    LIST_REPORTED_YEARS_BY_ROW.now (name_given account) (is_reported_year_of account) year_total_shown
+    LIST_REPORTED_YEARS_BY_ROW.now (name_given account) (is_reported_year_of account)
+    year_total_shown
 unfolding everything
 reported_years_in_row_order account old new rows t stands h =
-    in_row_order ReportedYears LIST_REPORTED_YEARS_BY_ROW.now _ _ _ rows_of_reported_years (name_given account)
+    in_row_order ReportedYears LIST_REPORTED_YEARS_BY_ROW.now _ _ _ rows_of_reported_years
+    (name_given account)
     (is_reported_year_of account) year_total_shown
     (λ p. one_passes _ _ (text_is p.1.account account)) (λ p. refl) old new rows (t ReportedYears)
     (stands ReportedYears) h refl
 
 pub corrections_in_row_order : (account : List ℕ) → IsInRowOrder CorrectedQuarters
-    LIST_CORRECTIONS_BY_ROW.now (name_given account) (is_correction_of account) quarter_correction_shown
+    LIST_CORRECTIONS_BY_ROW.now (name_given account) (is_correction_of account)
+    quarter_correction_shown
 unfolding everything
 corrections_in_row_order account old new rows t stands h =
-    in_row_order CorrectedQuarters LIST_CORRECTIONS_BY_ROW.now _ _ _ rows_of_corrections (name_given account)
+    in_row_order CorrectedQuarters LIST_CORRECTIONS_BY_ROW.now _ _ _ rows_of_corrections
+    (name_given account)
     (is_correction_of account) quarter_correction_shown
-    (λ p. one_passes _ _ (text_is p.1.account account)) (λ p. refl) old new rows (t CorrectedQuarters)
+    (λ p. one_passes _ _ (text_is p.1.account account)) (λ p. refl) old new rows
+    (t CorrectedQuarters)
     (stands CorrectedQuarters) h refl
 
 pub year_corrections_in_row_order : (account : List ℕ) → IsInRowOrder CorrectedYears
-    LIST_YEAR_CORRECTIONS_BY_ROW.now (name_given account) (is_year_correction_of account) year_correction_shown
+    LIST_YEAR_CORRECTIONS_BY_ROW.now (name_given account) (is_year_correction_of account)
+    year_correction_shown
 unfolding everything
 year_corrections_in_row_order account old new rows t stands h =
-    in_row_order CorrectedYears LIST_YEAR_CORRECTIONS_BY_ROW.now _ _ _ rows_of_year_corrections (name_given account)
+    in_row_order CorrectedYears LIST_YEAR_CORRECTIONS_BY_ROW.now _ _ _ rows_of_year_corrections
+    (name_given account)
     (is_year_correction_of account) year_correction_shown
     (λ p. one_passes _ _ (text_is p.1.account account)) (λ p. refl) old new rows (t CorrectedYears)
     (stands CorrectedYears) h refl
@@ -202,10 +222,12 @@ payments_in_row_order account old new rows t stands h =
     (stands Payments) h refl
 
 pub obligations_in_row_order : (account : List ℕ) → IsInRowOrder Obligations
-    LIST_OBLIGATIONS_BY_ROW.now (name_given account) (is_obligation_of_account account) obligation_shown
+    LIST_OBLIGATIONS_BY_ROW.now (name_given account) (is_obligation_of_account account)
+    obligation_shown
 unfolding everything
 obligations_in_row_order account old new rows t stands h =
-    in_row_order Obligations LIST_OBLIGATIONS_BY_ROW.now _ _ _ rows_of_obligations (name_given account)
+    in_row_order Obligations LIST_OBLIGATIONS_BY_ROW.now _ _ _ rows_of_obligations
+    (name_given account)
     (is_obligation_of_account account) obligation_shown
     (λ p. one_passes _ _ (text_is p.1.account account)) (λ p. refl) old new rows (t Obligations)
     (stands Obligations) h refl
@@ -219,38 +241,44 @@ all_forms_counted old new rows t stands h =
     new rows t stands h ∙ ap (λ xs. (Int (pos (min (length xs) greatest_count)) ∷ []) ∷ [])
     (filter_all (t Forms))
 
-pub all_account_corrections_counted : IsAllCounted CorrectedAccounts COUNT_ALL_ACCOUNT_CORRECTIONS.now
+pub all_account_corrections_counted : IsAllCounted CorrectedAccounts
+    COUNT_ALL_ACCOUNT_CORRECTIONS.now
 unfolding everything
 all_account_corrections_counted old new rows t stands h =
-    counts CorrectedAccounts COUNT_ALL_ACCOUNT_CORRECTIONS.now _ counts_all_account_corrections [] (λ x. true) (λ p. refl) old
+    counts CorrectedAccounts COUNT_ALL_ACCOUNT_CORRECTIONS.now _ counts_all_account_corrections []
+    (λ x. true) (λ p. refl) old
     new rows t stands h ∙ ap (λ xs. (Int (pos (min (length xs) greatest_count)) ∷ []) ∷ [])
     (filter_all (t CorrectedAccounts))
 
 pub all_reported_counted : IsAllCounted ReportedQuarters COUNT_ALL_REPORTED.now
 unfolding everything
 all_reported_counted old new rows t stands h =
-    counts ReportedQuarters COUNT_ALL_REPORTED.now _ counts_all_reported [] (λ x. true) (λ p. refl) old
+    counts ReportedQuarters COUNT_ALL_REPORTED.now _ counts_all_reported [] (λ x. true) (λ p. refl)
+    old
     new rows t stands h ∙ ap (λ xs. (Int (pos (min (length xs) greatest_count)) ∷ []) ∷ [])
     (filter_all (t ReportedQuarters))
 
 pub all_reported_years_counted : IsAllCounted ReportedYears COUNT_ALL_REPORTED_YEARS.now
 unfolding everything
 all_reported_years_counted old new rows t stands h =
-    counts ReportedYears COUNT_ALL_REPORTED_YEARS.now _ counts_all_reported_years [] (λ x. true) (λ p. refl) old
+    counts ReportedYears COUNT_ALL_REPORTED_YEARS.now _ counts_all_reported_years [] (λ x. true)
+    (λ p. refl) old
     new rows t stands h ∙ ap (λ xs. (Int (pos (min (length xs) greatest_count)) ∷ []) ∷ [])
     (filter_all (t ReportedYears))
 
 pub all_corrections_counted : IsAllCounted CorrectedQuarters COUNT_ALL_CORRECTIONS.now
 unfolding everything
 all_corrections_counted old new rows t stands h =
-    counts CorrectedQuarters COUNT_ALL_CORRECTIONS.now _ counts_all_corrections [] (λ x. true) (λ p. refl) old
+    counts CorrectedQuarters COUNT_ALL_CORRECTIONS.now _ counts_all_corrections [] (λ x. true)
+    (λ p. refl) old
     new rows t stands h ∙ ap (λ xs. (Int (pos (min (length xs) greatest_count)) ∷ []) ∷ [])
     (filter_all (t CorrectedQuarters))
 
 pub all_year_corrections_counted : IsAllCounted CorrectedYears COUNT_ALL_YEAR_CORRECTIONS.now
 unfolding everything
 all_year_corrections_counted old new rows t stands h =
-    counts CorrectedYears COUNT_ALL_YEAR_CORRECTIONS.now _ counts_all_year_corrections [] (λ x. true) (λ p. refl) old
+    counts CorrectedYears COUNT_ALL_YEAR_CORRECTIONS.now _ counts_all_year_corrections []
+    (λ x. true) (λ p. refl) old
     new rows t stands h ∙ ap (λ xs. (Int (pos (min (length xs) greatest_count)) ∷ []) ∷ [])
     (filter_all (t CorrectedYears))
 
@@ -278,6 +306,7 @@ all_payments_counted old new rows t stands h =
 pub all_obligations_counted : IsAllCounted Obligations COUNT_ALL_OBLIGATIONS.now
 unfolding everything
 all_obligations_counted old new rows t stands h =
-    counts Obligations COUNT_ALL_OBLIGATIONS.now _ counts_all_obligations [] (λ x. true) (λ p. refl) old
+    counts Obligations COUNT_ALL_OBLIGATIONS.now _ counts_all_obligations [] (λ x. true) (λ p. refl)
+    old
     new rows t stands h ∙ ap (λ xs. (Int (pos (min (length xs) greatest_count)) ∷ []) ∷ [])
     (filter_all (t Obligations))

@@ -206,7 +206,8 @@ peeled_is (Two op a b) = refl
 module _ (s : Schema) (at : ℕ) (t : Table) (listed : slice_get s.tables at ≡ Some t)
     (name : Name) where
   heading_by : (may : Bool) (c text : Name) (o : Option ℕ) → column_named t c ≡ o
-      → (is_some o || knows_rowid t c) ≡ true → heading (here s at name [] may) (say (Column c)) text ≡ heading
+      → (is_some o || knows_rowid t c) ≡ true
+      → heading (here s at name [] may) (say (Column c)) text ≡ heading
       (here (alone t) 0 name [] may) (say (Column c)) text
   unfolding everything
   heading_by may c text (Some k) is h = rw (listed, is, listed) refl

@@ -9,6 +9,8 @@ pub mod Telling
 pub mod Same
 mod SameKept
 mod SameCorrections
+mod SameAdded
+mod TellingAdded
 pub mod Sums
 pub mod YearRows
 pub mod Putting
@@ -18,3 +20,4 @@ pub mod Items
 pub mod Sifted
 pub mod AddedYears
 mod ReadTexts
+pub mod Readable

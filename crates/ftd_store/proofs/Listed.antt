@@ -10,7 +10,8 @@ use Rattle.sqlite.specs.Order.{Row}
 use Rattle.ftd_sql.specs.Order.{EachToNext}
 use Rattle.ftd_store.specs.Lists.{Pairs, Lists, ListsFirst}
 
-none_fails : {X : Type 0} (test : X → Bool) (xs : List X) → list_any (λ x. not (test x))
+-- each row that is left passes the test
+pub none_fails : {X : Type 0} (test : X → Bool) (xs : List X) → list_any (λ x. not (test x))
     (filter test xs) ≡ false
 none_fails test [] = refl
 none_fails test (x ∷ xs) = elim (cases_Bool (test x)) [

@@ -10,6 +10,17 @@ use Rattle.ftd_sql.proofs.Asking.{lists_years, reads_run, counts_runs, lists_run
 use Rattle.ftd_sql.proofs.Asking.{lists_kept_runs, reads_payment, counts_payments}
 use Rattle.ftd_sql.proofs.Asking.{lists_payments, lists_kept_payments, lists_obligations}
 use Rattle.ftd_sql.proofs.Asking.{lists_due_over, lists_due_between}
+use Rattle.ftd_sql.proofs.AskingAdded.{rows_of_accounts, rows_of_forms, rows_of_account_corrections}
+use Rattle.ftd_sql.proofs.AskingAdded.{rows_of_reported, rows_of_reported_years}
+use Rattle.ftd_sql.proofs.AskingAdded.{rows_of_corrections, rows_of_year_corrections}
+use Rattle.ftd_sql.proofs.AskingAdded.{rows_of_calendar_years, rows_of_holidays}
+use Rattle.ftd_sql.proofs.AskingAdded.{rows_of_added_holidays, rows_of_holiday_changes}
+use Rattle.ftd_sql.proofs.AskingAdded.{rows_of_years, rows_of_runs, rows_of_payments}
+use Rattle.ftd_sql.proofs.AskingAdded.{rows_of_obligations, counts_all_forms}
+use Rattle.ftd_sql.proofs.AskingAdded.{counts_all_account_corrections, counts_all_reported}
+use Rattle.ftd_sql.proofs.AskingAdded.{counts_all_reported_years, counts_all_corrections}
+use Rattle.ftd_sql.proofs.AskingAdded.{counts_all_year_corrections, counts_all_years}
+use Rattle.ftd_sql.proofs.AskingAdded.{counts_all_runs, counts_all_payments, counts_all_obligations}
 use Rattle.ftd_sql.proofs.Reading.{asking, counting}
 use Rattle.ftd_store.specs.Readings.{text_of}
 use Rattle.ftd_store.specs.declared.readings.Reading.{Reading}
@@ -43,3 +54,28 @@ is_reading reading.ListKeptPayments = asking _ _ _ _ _ lists_kept_payments
 is_reading reading.ListObligations = asking _ _ _ _ _ lists_obligations
 is_reading reading.ListDueOver = asking _ _ _ _ _ lists_due_over
 is_reading reading.ListDueBetween = asking _ _ _ _ _ lists_due_between
+is_reading reading.ListAccountsByRow = asking _ _ _ _ _ rows_of_accounts
+is_reading reading.ListFormsByRow = asking _ _ _ _ _ rows_of_forms
+is_reading reading.ListAccountCorrectionsByRow = asking _ _ _ _ _ rows_of_account_corrections
+is_reading reading.ListReportedByRow = asking _ _ _ _ _ rows_of_reported
+is_reading reading.ListReportedYearsByRow = asking _ _ _ _ _ rows_of_reported_years
+is_reading reading.ListCorrectionsByRow = asking _ _ _ _ _ rows_of_corrections
+is_reading reading.ListYearCorrectionsByRow = asking _ _ _ _ _ rows_of_year_corrections
+is_reading reading.ListCalendarYearsByRow = asking _ _ _ _ _ rows_of_calendar_years
+is_reading reading.ListHolidaysByRow = asking _ _ _ _ _ rows_of_holidays
+is_reading reading.ListAddedHolidaysByRow = asking _ _ _ _ _ rows_of_added_holidays
+is_reading reading.ListChangedHolidaysByRow = asking _ _ _ _ _ rows_of_holiday_changes
+is_reading reading.ListYearsByRow = asking _ _ _ _ _ rows_of_years
+is_reading reading.ListRunsByRow = asking _ _ _ _ _ rows_of_runs
+is_reading reading.ListPaymentsByRow = asking _ _ _ _ _ rows_of_payments
+is_reading reading.ListObligationsByRow = asking _ _ _ _ _ rows_of_obligations
+is_reading reading.CountAllForms = counting _ _ _ counts_all_forms
+is_reading reading.CountAllAccountCorrections = counting _ _ _ counts_all_account_corrections
+is_reading reading.CountAllReported = counting _ _ _ counts_all_reported
+is_reading reading.CountAllReportedYears = counting _ _ _ counts_all_reported_years
+is_reading reading.CountAllCorrections = counting _ _ _ counts_all_corrections
+is_reading reading.CountAllYearCorrections = counting _ _ _ counts_all_year_corrections
+is_reading reading.CountAllYears = counting _ _ _ counts_all_years
+is_reading reading.CountAllRuns = counting _ _ _ counts_all_runs
+is_reading reading.CountAllPayments = counting _ _ _ counts_all_payments
+is_reading reading.CountAllObligations = counting _ _ _ counts_all_obligations

@@ -113,6 +113,14 @@ lists {g = g} {old = old} {new = new} {result = result} items n {sql = sql} {par
     lists_shown Rise IsRowOf test see seen same (t n) read.0 (items listed) read.1 read.3
     (sym read.2 ∙ is)) q
 
+-- the count is the number that the engine answers, which it answers exactly up to its greatest
+pub same_count : (count length : ℕ) (rows : List Row) → count < 2 ^ 32
+    → rows ≡ count_cells count ∷ [] → rows ≡ (Int (pos (min length greatest_count)) ∷ []) ∷ []
+    → count ≡ length
+same_count count length rows small shows tells =
+    let same : count ≡ min length greatest_count = cc in
+    omega arith
+
 -- how many rows there are
 pub counts : {S : Type 0} {g : store.Ghosts S} {old new : Tx S} {result : Result ℕ StoreFault}
     {n : TableName} {sql : List ℕ} {params : Row} (test : RowOf n → Bool)
@@ -121,15 +129,9 @@ pub counts : {S : Type 0} {g : store.Ghosts S} {old new : Tx S} {result : Result
     × (count < 2 ^ 32)) → Reads g old new result (λ count t. count ≡ length (filter test (t n)))
 counts {g = g} {old = old} {new = new} {result = result} {n = n} {sql = sql} {params = params}
     test means q =
-    reads_by g old new result sql params _ _ (λ count rows t stands showed is. same count
+    reads_by g old new result sql params _ _ (λ count rows t stands showed is. same_count count
     (length (filter test (t n))) rows is.1 is.0
     (means (shown g old) (shown g new) rows t stands showed)) q
-  where
-    same : (count length : ℕ) (rows : List Row) → count < 2 ^ 32 → rows ≡ count_cells count ∷ []
-        → rows ≡ (Int (pos (min length greatest_count)) ∷ []) ∷ [] → count ≡ length
-    same count length rows small shows tells =
-        let same : count ≡ min length greatest_count = cc in
-        omega arith
 
 -- the one row of a key is changed
 pub changes_one : {S : Type 0} {g : store.Ghosts S} {old new : Tx S}

@@ -18,6 +18,7 @@ use Rattle.std.proofs.lemmas.Bool.{false≢true}
 use Rattle.ftd_sql.specs.TextKinds.{IsReadText}
 use Rattle.ftd_sql.proofs.Commits.{reading_commits_nothing}
 use Rattle.ftd_sql.proofs.Meaning.{select_plain}
+use Rattle.ftd_sql.proofs.Reading.{is_low}
 use Rattle.ftd_sql.proofs.Selects.{selects}
 use Rattle.ftd_rules.specs.declared.Obligation.{Obligation}
 use Rattle.ftd_sql.specs.declared.TableName.TheVariants.{Obligations}
@@ -47,7 +48,8 @@ ends s t params ps c db stands it =
     let l = stands Obligations in
     let a = lists_obligations in
     let m = selects s.now.schema LIST_OBLIGATIONS.now _ _ l.at _ _ _ _ _ _ _ l.place a.reads
-    a.opens.whole a.opens.first (a.resolves l.tree) (a.accepted l.tree) in
+    a.opens.whole a.opens.first (a.resolves l.tree (is_low l.place))
+    (a.accepted l.tree) in
     let is = ap command_of (sym it.is) ∙ m.is in
     subst (λ k. EndsIn k db ps) (sym is) tt
 

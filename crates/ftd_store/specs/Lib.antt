@@ -8,6 +8,7 @@ pub mod DaySums
 pub mod Years
 pub mod KeptRows
 pub mod CorrectionRows
+pub mod AddedRows
 pub mod Seen
 pub mod Frame
 pub mod Ends
@@ -20,6 +21,7 @@ pub mod Walking
 pub mod RowsLending
 pub mod Kept
 pub mod Corrections
+pub mod Added
 pub mod Readings
 pub use Rattle.ftd_days.specs.Business
 pub use Rattle.ftd_days.specs.Calendar

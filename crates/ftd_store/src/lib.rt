@@ -10,11 +10,14 @@
 
 mod account_cells;
 mod accounts;
+mod added;
+mod added_cells;
 mod calendar_cells;
 mod calendars;
 mod cells;
 mod correction_cells;
 mod corrections;
+mod counts;
 mod day_sum_cells;
 mod faults;
 mod holidays;
@@ -37,6 +40,7 @@ mod year_cells;
 mod years;
 
 pub use crate::account_cells::Account;
+pub use crate::added_cells::{QuarterCorrection, YearCorrection, YearHoliday, YearHolidayChange};
 pub use crate::cells::{
     StoredCents, StoredDay, StoredFlag, StoredForm, StoredRule, StoredSchedule,
 };
