@@ -39,16 +39,15 @@ use Rattle.ftd_store.specs.KeptRows.{IsNamedAccountCells, IsQuarterTotalCells, I
 use Rattle.ftd_store.specs.KeptRows.{IsNumberedRunCells, IsNumberedPaymentCells}
 use Rattle.ftd_store.specs.Rows.{form_row, account_correction_row, calendar_year_row}
 use Rattle.ftd_store.specs.Rows.{obligation_row}
-use Rattle.ftd_store.specs.Added.{ReadsRows, named_account_row, quarter_total_row, year_total_row}
+use Rattle.ftd_store.specs.Added.{named_account_row, quarter_total_row, year_total_row}
 use Rattle.ftd_store.specs.Added.{quarter_correction_row, listed_year_correction_row}
 use Rattle.ftd_store.specs.Added.{year_holiday_row, year_holiday_change_row, stored_year_row}
 use Rattle.ftd_store.specs.Added.{numbered_run_row, numbered_payment_row}
 
 -- rows that are read as None are not those of values whose rows can all be read
-pub none_of_values : {X Y A : Type 0} (row : Y → X) (shown : X → Row) (IsReadable : Row → Type 0)
-    (xs : List Y) (rows : List X) → rows ≡ map row xs
-    → ReadsRows {A = A} row shown IsReadable None rows
-    → All (λ y. IsReadable (shown (row y))) xs → ⊥
+pub none_of_values : {X Y : Type 0} (row : Y → X) (shown : X → Row) (IsReadable : Row → Type 0)
+    (xs : List Y) (rows : List X) → rows ≡ map row xs → ¬ All IsReadable (map shown rows)
+    → ¬ All (λ y. IsReadable (shown (row y))) xs
 none_of_values row shown IsReadable xs rows is none all =
     none (subst (λ rs. All IsReadable (map shown rs)) (sym is)
     (All-map IsReadable shown (map row xs) (All-map (λ x. IsReadable (shown x)) row xs all)))
