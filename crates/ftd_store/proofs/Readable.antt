@@ -1,6 +1,6 @@
 -- The rows of values that code can hold show cells that can be read. So rows that are read as None
 -- are not those of such values alone.
-use Rattle.std.proofs.Common.{◌≡◌, ◌<◌, ◌≤◌, ◌^◌, ◌⊎◌, inl, inr, ℕ, pos, List, map, None, Some}
+use Rattle.std.proofs.Common.{◌≡◌, ◌<◌, ◌≤◌, ◌^◌, ◌⊎◌, inl, inr, ℕ, List, map, None, Some}
 use Rattle.std.proofs.Common.{refl}
 use Rattle.std.proofs.Common.{sym, subst, Option, arith}
 use Rattle.std.specs.Prelude.{IsUtf8, IfSome, option_map, string_bytes}

@@ -1,18 +1,15 @@
 -- What a call tells of the rows that it reads in the order in which they were added, and of how
 -- many there are.
-use Rattle.std.proofs.Common.{◌≡◌, ◌<◌, ◌^◌, arith, length, ℕ, pos, List, [], ◌∷◌, map, Result}
+use Rattle.std.proofs.Common.{◌≡◌, ◌<◌, ◌^◌, length, ℕ, List, [], ◌∷◌, map, Result}
 use Rattle.std.proofs.Common.{Option, None, Some, Bool, true, not, false, sym, subst, refl, ◌∙◌}
 use Rattle.std.proofs.Common.{inl, inr}
-use Rattle.std.specs.Prelude.{filter, min, Vec}
+use Rattle.std.specs.Prelude.{filter, Vec}
 use Rattle.std.specs.List.{All, list_any}
 use Rattle.std.proofs.lemmas.Bool.{cases_Bool}
-use Rattle.sqlite.specs.declared.types.Value.TheVariants.{Int}
 use Rattle.sqlite.specs.Order.{Row}
 use Rattle.sqlite.specs.Store as store
 use Rattle.ftd_sql.specs.declared.TableName.{TableName}
 use Rattle.ftd_sql.specs.Rows.{RowOf}
-use Rattle.ftd_sql.specs.Standing.{Tables}
-use Rattle.ftd_sql.proofs.Counting.{greatest_count}
 use Rattle.ftd_sql.proofs.RowOrder as meaning
 use Rattle.ftd_store.specs.declared.faults.StoreFault.{StoreFault}
 use Rattle.ftd_store.specs.declared.tx.Tx.{Tx}
