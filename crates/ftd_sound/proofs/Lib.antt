@@ -1,0 +1,14 @@
+pub mod Deciding
+pub mod Apart
+pub mod Following
+pub mod InForce
+pub mod Begun
+pub mod Named
+pub mod NamedTotals
+pub mod NamedLines
+pub mod Assessed
+pub mod InForceTotals
+pub mod Parted
+pub mod Distinct
+pub mod Checked
+pub mod Decided

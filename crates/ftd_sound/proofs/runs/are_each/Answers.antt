@@ -1,0 +1,16 @@
+use Rattle.std.proofs.Common.{◌≡◌, rules, tests, ℕ, true, false}
+use Rattle.std.proofs.lemmas.Bool.{false≢true}
+use Rattle.std.proofs.lemmas.Iterator.{YieldsList-from_slice, cases_from_all}
+use Rattle.ftd_rules.specs.declared.run.Voidable.{Voidable}
+use Rattle.ftd_rules.specs.declared.run.PayRun.{PayRun}
+use Rattle.ftd_sound.specs.Private.Plain.{IsRun}
+use Rattle.ftd_sound.proofs.Deciding.{all_decides}
+use Rattle.ftd_sound.proofs.runs.are_each.Goals as goal
+
+pub returns : goal.returns
+returns c =
+    let P : ℕ × Voidable PayRun → Type 0 = λ e. IsRun c.args.account c.args.years.now e in
+    all_decides P c.args.runs.now c.all.result
+    (cases_from_all _ _ _ P (λ e. P e → ⊥) c.all.ensures.ran
+    (YieldsList-from_slice c.args.runs.now cc) (λ x q k. search (rules, tests))
+    (λ x q k h. (let t : false ≡ true = search (rules, tests) in false≢true t)))

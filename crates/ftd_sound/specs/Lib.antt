@@ -1,0 +1,5 @@
+pub mod Own
+pub mod Parts
+pub mod Days
+pub mod Entered
+pub mod Private
