@@ -1,0 +1,11 @@
+pub mod Account
+pub mod Accounts
+pub mod Days
+pub mod Holidays
+pub mod Numbers
+pub mod OwnRows
+pub mod Parts
+pub mod Private
+pub mod Sizes
+pub mod Soundness
+pub mod Whole
