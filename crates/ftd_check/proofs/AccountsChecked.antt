@@ -1,13 +1,16 @@
 -- What is found of all accounts, one after the other.
 use Rattle.std.proofs.Common.{◌≡◌, ◌∙◌, ◌≤◌, ◌++◌, ℕ, refl, sym, ap, subst}
 use Rattle.std.proofs.Common.{true, List, [], ◌∷◌, map, arith, append-nil, append_assoc, Some, None}
-use Rattle.std.proofs.Common.{Global}
+use Rattle.std.proofs.Common.{Global, Ok}
+use Rattle.std.specs.Prelude.{nat_le}
 use Rattle.std.specs.List.{All}
 use Rattle.std.proofs.lemmas.Bool.{leb-true}
 use Rattle.std.proofs.lemmas.Int.{ints}
 use Rattle.std.proofs.lemmas.List.{map-append}
 use Rattle.std.proofs.lemmas.List.Elements.{All-map}
 use Rattle.ftd_days.specs.Calendar.{year_of, last_day}
+use Rattle.ftd_days.specs.Holidays.{AreFew}
+use Rattle.ftd_days.specs.declared.limits.TheConstants.{LAST_OPEN_YEAR}
 use Rattle.ftd_days.proofs.Months.{day_in_years}
 use Rattle.ftd_rules.specs.Accounts.{is_account_name}
 use Rattle.ftd_rules.specs.Lists.{Has}
@@ -23,11 +26,14 @@ use Rattle.ftd_store.specs.KeptRows.{IsNamedAccountCells}
 use Rattle.ftd_store.specs.declared.kept_cells.NamedAccount.{NamedAccount}
 use Rattle.ftd_machine.proofs.Found.{has_here}
 use Rattle.ftd_machine.specs.State.{Enrolled}
-use Rattle.ftd_machine.specs.Sound.{AreDistinct}
+use Rattle.ftd_machine.specs.Sound.{AreDistinct, name_of}
 use Rattle.ftd_entries.specs.Standing.{enrolled_row}
-use Rattle.ftd_check.specs.Accounts.{AreNames, ChecksAccount, ChecksAccounts, name_read}
+use Rattle.ftd_check.specs.Accounts.{AreAllSound, AreEnrolled, AreNames, ChecksAccount}
+use Rattle.ftd_check.specs.Accounts.{ChecksAccounts, HasBadList, HasUnsound, ShowsBad, name_read}
 use Rattle.ftd_check.specs.Sizes.{AreSizesTogether, sizes_together}
-use Rattle.ftd_check.specs.Whole.{IsSoundAccount, SoundAccount, account_in, name_in}
+use Rattle.ftd_check.specs.Whole.{SoundAccount, account_in, name_in}
+use Rattle.ftd_check.specs.declared.soundness.Part.{Part}
+use Rattle.ftd_check.specs.declared.soundness.Part.TheVariants as part
 use Rattle.ftd_check.specs.declared.sizes.Sizes.{Sizes}
 use Rattle.ftd_check.proofs.NameText.{name_is_text}
 use Rattle.ftd_check.proofs.SizesTogether.{together_none, together_more}
@@ -82,6 +88,10 @@ module _ (t : Tables) (given holidays : List ℕ) where
   rows_in [] = refl
   rows_in (p ∷ ps) = ap (λ (rs : List AccountRow). row_in p ∷ rs) (rows_in ps)
 
+  names_of : (ps : List Kept) → map name_in ps ≡ map name_of (map account_in ps)
+  names_of [] = refl
+  names_of (p ∷ ps) = ap (λ (ns : List (List ℕ)). name_in p ∷ ns) (names_of ps)
+
   -- the names that were read are those of the accounts
   same_names : (accounts : List NamedAccount) (ps : List Kept)
       → map named_account_row accounts ≡ map enrolled_row (map account_in ps)
@@ -93,44 +103,74 @@ module _ (t : Tables) (given holidays : List ℕ) where
 
   -- ---- where there is none
 
-  -- a sound account can be read
-  readable : (e : Enrolled) → IsSoundAccount t given holidays e
+  -- an account of a list can be read
+  readable : (e : Enrolled) → is_account_name e.name ≡ true
+      → nat_le (year_of e.account.start) LAST_OPEN_YEAR ≡ true
       → IsNamedAccountCells (enrolled_shown (enrolled_row e))
-  readable e is =
-      let early = is.sound.starts.enrolled e.account is.enrolled in
+  readable e named early =
       let year = leb-true (year_of e.account.start) 2098 early in
       let within : e.account.start ≤ last_day = day_in_years e.account.start (omega arith) in (
         refl,
-        (e.name, refl, name_is_text e.name is.name),
+        (e.name, refl, name_is_text e.name named),
         (day_number e.account.start, refl, (omega (arith, ints), omega (arith, ints))),
         (e.account.carried, refl),
       )
 
-  all_readable : (ps : List Kept) → All IsNamedAccountCells (map enrolled_shown (map row_in ps))
-  all_readable ps =
-      All-map IsNamedAccountCells enrolled_shown (map row_in ps)
-      (All-map (λ r. IsNamedAccountCells (enrolled_shown r)) row_in ps
-      (all_has (λ (p : Kept). IsNamedAccountCells (enrolled_shown (row_in p))) ps
-      (λ p has. readable p.0 p.1)))
+  all_readable : (es : List Enrolled) → AreEnrolled es
+      → All IsNamedAccountCells (map enrolled_shown (map enrolled_row es))
+  all_readable es are =
+      All-map IsNamedAccountCells enrolled_shown (map enrolled_row es)
+      (All-map (λ (r : AccountRow). IsNamedAccountCells (enrolled_shown r)) enrolled_row es
+      (all_has (λ (e : Enrolled). IsNamedAccountCells (enrolled_shown (enrolled_row e))) es
+      (λ e has. readable e (are.names e has) (are.early e has))))
 
-  pub none_read : AccountsByRow {A = Global} None t → ChecksAccounts given holidays None t
-  none_read unreadable ps few are =
+  pub none_read : AccountsByRow {A = Global} None t → HasBadList t
+  none_read unreadable es same are =
       unreadable (subst (λ (rs : List AccountRow). All IsNamedAccountCells (map enrolled_shown rs))
-      (sym (are.rows ∙ rows_in ps)) (all_readable ps))
+      (sym same) (all_readable es are))
 
   pub no_such_names : (accounts : List NamedAccount) → map named_account_row accounts ≡ t Accounts
-      → (AreNames accounts → ⊥) → ChecksAccounts given holidays None t
-  no_such_names accounts listed not ps few are =
-      let names = same_names accounts ps (listed ∙ are.rows) in
+      → (AreNames accounts → ⊥) → HasBadList t
+  no_such_names accounts listed not es same are =
+      let names : map name_read accounts ≡ map name_of es =
+      sym (names_in name_read named_account_row (λ a. refl) accounts)
+      ∙ ap (map row_name) (listed ∙ same)
+      ∙ names_in name_of enrolled_row (λ e. refl) es in
       not (record {
         each = λ a has.
-            let named : Has (map name_in ps) (name_read a) = subst
+            let named : Has (map name_of es) (name_read a) = subst
             (λ (ns : List (List ℕ)). Has ns (name_read a)) names
             (mapped_has name_read accounts a has) in
-            let p = has_mapped name_in ps (name_read a) named in
-            subst (λ (n : List ℕ). is_account_name n ≡ true) (sym p.2) p.0.1.name;
-        once = apart_too name_in name_read ps accounts (sym names) are.once;
+            let e = has_mapped name_of es (name_read a) named in
+            subst (λ (n : List ℕ). is_account_name n ≡ true) (sym e.2) (are.names e.0 e.1);
+        once = apart_too name_of name_read es accounts (sym names) are.once;
       })
+
+  -- sound accounts are a list of accounts
+  sound_list : (ps : List Kept) → AreAllSound t given holidays ps → AreEnrolled (map account_in ps)
+  sound_list ps are = record {
+    names = λ e has.
+        let p = has_mapped account_in ps e has in
+        subst (λ (x : Enrolled). is_account_name x.name ≡ true) (sym p.2) p.0.1.name;
+    once = apart_too name_in name_of ps (map account_in ps) (names_of ps) are.once;
+    early = λ e has.
+        let p = has_mapped account_in ps e has in
+        subst (λ (x : Enrolled). nat_le (year_of x.account.start) LAST_OPEN_YEAR ≡ true) (sym p.2)
+        (p.0.1.sound.starts.enrolled p.0.0.account p.0.1.enrolled);
+  }
+
+  -- the part shows that not all are sound
+  pub not_all_sound : (p : Part) → ShowsBad given holidays p t → AreFew holidays → (ps : List Kept)
+      → AreAllSound t given holidays ps → ⊥
+  not_all_sound part.Holidays bad few ps are = bad
+  not_all_sound part.Accounts bad few ps are =
+      bad (map account_in ps) are.rows (sound_list ps are)
+  not_all_sound (part.Account name) bad few ps are =
+      let has : Has (map row_in ps) bad.row = subst (λ (rs : List AccountRow). Has rs bad.row)
+      (are.rows ∙ rows_in ps) bad.listed in
+      let p = has_mapped row_in ps bad.row has in
+      bad.unsound p.0.0 (sym p.2) few p.0.1
+  not_all_sound part.Rows bad few ps are = bad
 
   -- ---- one after the other
 
@@ -174,14 +214,14 @@ module _ (t : Tables) (given holidays : List ℕ) where
 
         -- one that is not sound
         pub one_unsound : ChecksAccount a given holidays None t
-            → ChecksAccounts given holidays None t
-        one_unsound bad ps few are =
-            let has : Has (map row_in ps) (named_account_row a) = subst
-            (λ (rs : List AccountRow). Has rs (named_account_row a))
-            (sym rows_left ∙ are.rows ∙ rows_in ps)
-            (has_here before (named_account_row a) (map named_account_row later)) in
-            let p = has_mapped row_in ps (named_account_row a) has in
-            bad p.0.0 (sym p.2) few p.0.1
+            → HasUnsound t given holidays (name_read a)
+        one_unsound bad = record {
+          row = named_account_row a;
+          listed = subst (λ (rs : List AccountRow). Has rs (named_account_row a)) (sym rows_left)
+              (has_here before (named_account_row a) (map named_account_row later));
+          named = refl;
+          unsound = bad;
+        }
 
         -- one more that is
         pub one_more_sound : (more : Sizes) → ChecksAccount a given holidays (Some more) t
@@ -208,7 +248,7 @@ module _ (t : Tables) (given holidays : List ℕ) where
                   so_far.sizes_are found.2);
             }
 
-      pub all_so_far : left ≡ [] → AreNames accounts → ChecksAccounts given holidays (Some sizes) t
+      pub all_so_far : left ≡ [] → AreNames accounts → ChecksAccounts given holidays (Ok sizes) t
       all_so_far none names =
           let rows : t Accounts ≡ map enrolled_row (map account_in so_far.sound) =
           so_far.rows ∙ ap (λ (ls : List NamedAccount). before ++ map named_account_row ls) none

@@ -1,25 +1,29 @@
 -- Whether the tables stand for a sound state, from what was found of their days and accounts.
-use Rattle.std.proofs.Common.{◌≡◌, ◌∙◌, ℕ, inl, inr, refl, sym, ap, subst, true, false, Bool, List}
-use Rattle.std.proofs.Common.{[], ◌∷◌, map, None, Some}
-use Rattle.std.specs.Prelude.{◌↔◌, IsTrue}
-use Rattle.std.proofs.lemmas.Bool.{false≢true}
+use Rattle.std.proofs.Common.{◌≡◌, ◌∙◌, ℕ, inl, inr, refl, sym, ap, subst, List, [], ◌∷◌, map}
+use Rattle.std.proofs.Common.{None, Some, Ok}
 use Rattle.ftd_days.specs.Holidays.{AreFew}
 use Rattle.ftd_rules.specs.Lists.{Has}
-use Rattle.ftd_sql.specs.Rows.{AccountRow}
+use Rattle.ftd_sql.specs.Beginnings.{HasVersion}
 use Rattle.ftd_sql.specs.Standing.{Tables}
+use Rattle.ftd_sql.specs.declared.TableName.TheVariants.{Accounts, Metas}
 use Rattle.ftd_machine.specs.State.{State, Enrolled}
 use Rattle.ftd_machine.specs.Sound.{IsSound, AreDistinct, name_of, year_of_calendar}
 use Rattle.ftd_entries.specs.Standing.{StandsFor, enrolled_row}
 use Rattle.ftd_sound.specs.Days.{calendar_in, change_in}
 use Rattle.ftd_sound.specs.Parts.{given_years}
 use Rattle.ftd_sound.proofs.Parted.{sound_by_parts}
-use Rattle.ftd_check.specs.Accounts.{ChecksAccounts, AreAllSound}
+use Rattle.ftd_check.specs.Accounts.{ChecksAccounts, AreAllSound, ShowsBad}
 use Rattle.ftd_check.specs.Days.{ReadsDays}
 use Rattle.ftd_check.specs.Holidays.{KnowsAll}
+use Rattle.ftd_check.specs.Private.Compared.{Compares}
 use Rattle.ftd_check.specs.Sizes.{AreAllSizes, AreSizesTogether}
-use Rattle.ftd_check.specs.Soundness.{StandForSound, TellsSound}
+use Rattle.ftd_check.specs.Soundness.{AreInForce, Finds, ShowsUnsound, StandForSound, row_name}
 use Rattle.ftd_check.specs.Whole.{IsSoundAccount, SoundAccount, account_in, name_in, AreOfAccounts}
 use Rattle.ftd_check.specs.declared.days.KeptDays.{KeptDays}
+use Rattle.ftd_check.specs.declared.soundness.Soundness.{Soundness}
+use Rattle.ftd_check.specs.declared.soundness.Soundness.TheVariants as soundness
+use Rattle.ftd_check.specs.declared.soundness.Part.{Part}
+use Rattle.ftd_check.specs.declared.soundness.Part.TheVariants as part
 use Rattle.ftd_check.specs.declared.sizes.Sizes.{Sizes}
 use Rattle.ftd_check.proofs.AllCounted.{of_accounts, all_counted, same_sizes}
 use Rattle.ftd_check.proofs.Covered.{text_itself}
@@ -27,7 +31,7 @@ use Rattle.ftd_check.proofs.OneDays.{not_none, kept_are}
 use Rattle.ftd_check.proofs.PartsOf.{account_sound, rows_covered}
 use Rattle.ftd_check.proofs.SizesTogether.{together_all}
 use Rattle.ftd_check.proofs.Whole.{the_state, state_sound, state_stands, names_once}
-use Rattle.ftd_check.proofs.AccountsChecked.{apart_too}
+use Rattle.ftd_check.proofs.AccountsChecked.{apart_too, not_all_sound}
 
 -- ---- lists
 
@@ -44,9 +48,6 @@ without P [] each = refl
 without {X = X} P (x ∷ xs) each =
     ap (λ (ys : List X). x ∷ ys) (without P xs (λ y has. each y (inr has)))
 
-abbrev row_name : AccountRow → List ℕ
-row_name r = r.name
-
 names_of : (es : List Enrolled) → map row_name (map enrolled_row es) ≡ map name_of es
 names_of [] = refl
 names_of (e ∷ es) = ap (λ (ns : List (List ℕ)). e.name ∷ ns) (names_of es)
@@ -56,16 +57,11 @@ names_in : {t : Tables} {given holidays : List ℕ} (ps : List (SoundAccount t g
 names_in [] = refl
 names_in (p ∷ ps) = ap (λ (ns : List (List ℕ)). name_in p ∷ ns) (names_in ps)
 
--- no sound state
-unsound : (t : Tables) → (StandForSound t → ⊥) → TellsSound false t
-unsound t none mark = (
-  (λ is. absurd (false≢true is)),
-  (λ found. absurd (none found)),
+pub days_unsound : (t : Tables) → ReadsDays None t → Finds (soundness.Unsound part.Holidays) t
+days_unsound t none = (
+  (λ found. not_none t found.0 found.2.entries.days (sound_by_parts found.0 found.1).days none),
+  none,
 )
-
-pub days_unsound : (t : Tables) → ReadsDays None t → TellsSound false t
-days_unsound t none = unsound t (λ found.
-    not_none t found.0 found.2.entries.days (sound_by_parts found.0 found.1).days none)
 
 module _ (t : Tables) (kept : KeptDays) (days : ReadsDays (Some kept) t) (read : List ℕ)
     (few : AreFew read) (knows : KnowsAll read t) where
@@ -97,11 +93,31 @@ module _ (t : Tables) (kept : KeptDays) (days : ReadsDays (Some kept) t) (read :
           (ap (map name_of) (sym its_names) ∙ names_in its_accounts) sound.accounts;
     }
 
-  pub accounts_unsound : ChecksAccounts given read None t → TellsSound false t
-  accounts_unsound none = unsound t (λ found.
-      none (its_accounts found.0 found.1 found.2) few (are_its found.0 found.1 found.2))
+  in_force : AreInForce t given read
+  in_force = record {
+    calendars = map calendar_in kept.calendars.items;
+    added = kept.added.items;
+    changes = map change_in kept.changes.items;
+    days = days;
+    years = refl;
+    few = few;
+    known = knows;
+  }
 
-  module _ (sizes all : Sizes) (found : ChecksAccounts given read (Some sizes) t)
+  shown : (p : Part) → ShowsBad given read p t → ShowsUnsound p t
+  shown part.Holidays bad = absurd bad
+  shown part.Accounts bad = bad
+  shown (part.Account name) bad = (given, read, in_force, bad)
+  shown part.Rows bad = absurd bad
+
+  pub accounts_unsound : (p : Part) → ShowsBad given read p t → Finds (soundness.Unsound p) t
+  accounts_unsound p bad = (
+    (λ found. not_all_sound t given read p bad few (its_accounts found.0 found.1 found.2)
+        (are_its found.0 found.1 found.2)),
+    shown p bad,
+  )
+
+  module _ (sizes all : Sizes) (found : ChecksAccounts given read (Ok sizes) t)
       (counted : AreAllSizes all t) where
     abbrev accounts : List (SoundAccount t given read)
     accounts = found.0
@@ -120,38 +136,47 @@ module _ (t : Tables) (kept : KeptDays) (days : ReadsDays (Some kept) t) (read :
     together = subst (λ (ns : List (List ℕ)). AreSizesTogether t ns sizes) (sym (names_in accounts))
         found.2
 
-    sound_if : sizes ≡ all → (covered : AreOfAccounts t names) → TellsSound true t
-    sound_if same covered mark = (
-      (λ is. (
-        the_state t (map calendar_in kept.calendars.items) kept.added.items
-            (map change_in kept.changes.items) days.rows read accounts found.1.rows
-            found.1.once covered,
-        state_sound t (map calendar_in kept.calendars.items) kept.added.items
-            (map change_in kept.changes.items) days.rows read accounts found.1.rows
-            found.1.once covered days.sound,
-        state_stands t (map calendar_in kept.calendars.items) kept.added.items
-            (map change_in kept.changes.items) days.rows read accounts found.1.rows
-            found.1.once covered days.sound mark knows,
-      )),
-      (λ there. refl),
+    -- the names of the list
+    listed : map row_name (t Accounts) ≡ names
+    listed = ap (map row_name) found.1.rows ∙ names_of (map account_in accounts)
+
+    sound_if : (covered : AreOfAccounts t names) → HasVersion (t Metas) 3 → StandForSound t
+    sound_if covered mark = (
+      the_state t (map calendar_in kept.calendars.items) kept.added.items
+          (map change_in kept.changes.items) days.rows read accounts found.1.rows
+          found.1.once covered,
+      state_sound t (map calendar_in kept.calendars.items) kept.added.items
+          (map change_in kept.changes.items) days.rows read accounts found.1.rows
+          found.1.once covered days.sound,
+      state_stands t (map calendar_in kept.calendars.items) kept.added.items
+          (map change_in kept.changes.items) days.rows read accounts found.1.rows
+          found.1.once covered days.sound mark knows,
     )
 
     of_all : sizes ≡ all → AreOfAccounts t names
     of_all same = of_accounts t names once (together_all t names sizes together
         (subst (λ (z : Sizes). AreAllSizes z t) (sym same) counted))
 
+    -- each row is an account's
+    same_by : AreOfAccounts t names → sizes ≡ all
+    same_by covered =
+        same_sizes t names sizes all together (all_counted t names once covered) counted
+
     same_for : StandForSound t → sizes ≡ all
     same_for there =
         let s = there.0 in let sound = there.1 in let stands = there.2 in
         let same : map name_of s.accounts ≡ names =
-        sym (names_of s.accounts)
-        ∙ ap (map row_name) (sym stands.entries.enrolled.accounts ∙ found.1.rows)
-        ∙ names_of (map account_in accounts) in
-        same_sizes t names sizes all together
-        (all_counted t names once (subst (AreOfAccounts t) same
-        (rows_covered t s stands sound))) counted
+        sym (names_of s.accounts) ∙ ap (map row_name) (sym stands.entries.enrolled.accounts)
+        ∙ listed in
+        same_by (subst (AreOfAccounts t) same (rows_covered t s stands sound))
 
-    pub accounts_sound : (tells : Bool) → IsTrue tells ↔ (sizes ≡ all) → TellsSound tells t
-    accounts_sound true decided = let same = decided.0 refl in sound_if same (of_all same)
-    accounts_sound false decided = unsound t (λ there.
-        false≢true (decided.1 (same_for there)))
+    pub accounts_found : (told : Soundness) → Compares sizes all told → Finds told t
+    accounts_found (soundness.Sound told) compared = λ mark. (
+      sound_if (of_all compared.1) mark,
+      subst (λ (z : Sizes). AreAllSizes z t) (sym compared.0) counted,
+    )
+    accounts_found (soundness.Unsound p) compared = (
+      (λ there. compared.1 (same_for there)),
+      subst (λ (q : Part). ShowsUnsound q t) (sym compared.0)
+          (λ covered. compared.1 (same_by (subst (AreOfAccounts t) listed covered))),
+    )

@@ -10,27 +10,27 @@ use sqlite::Alter;
 
 /// How many rows there are of each kind that accounts have.
 #[derive(Clone, Copy, Debug, PartialEq, Eq)]
-pub(crate) struct Sizes {
-    /// Forms.
-    pub(crate) forms: u64,
+pub struct Sizes {
+    /// Forms, of each account one.
+    pub forms: u64,
     /// Corrections of accounts.
-    pub(crate) account_corrections: u64,
+    pub account_corrections: u64,
     /// Totals of quarters.
-    pub(crate) reported: u64,
+    pub reported: u64,
     /// Totals of years.
-    pub(crate) reported_years: u64,
+    pub reported_years: u64,
     /// Corrections of totals of quarters.
-    pub(crate) corrections: u64,
+    pub corrections: u64,
     /// Corrections of totals of years.
-    pub(crate) year_corrections: u64,
+    pub year_corrections: u64,
     /// Open years.
-    pub(crate) years: u64,
+    pub years: u64,
     /// Runs, void ones too.
-    pub(crate) runs: u64,
+    pub runs: u64,
     /// Payments, void ones too.
-    pub(crate) payments: u64,
+    pub payments: u64,
     /// Obligations.
-    pub(crate) obligations: u64,
+    pub obligations: u64,
 }
 
 impl Sizes {

@@ -1,5 +1,5 @@
 use Rattle.std.proofs.Common.{◌≡◌, ◌∙◌, ℕ, inl, inr, refl, sym, ap, subst, rules, true, List, map}
-use Rattle.std.proofs.Common.{Option, None, Some, Vec, Global}
+use Rattle.std.proofs.Common.{Option, Some, Vec, Global, Ok, Err}
 use Rattle.std.proofs.lemmas.Bool.{true≢false}
 use Rattle.std.proofs.lemmas.List.{nil_from_length}
 use Rattle.ftd_days.specs.Holidays.{holidays_of}
@@ -11,7 +11,9 @@ use Rattle.ftd_store.specs.Added.{AccountsByRow, named_account_row}
 use Rattle.ftd_store.specs.declared.kept_cells.NamedAccount.{NamedAccount}
 use Rattle.ftd_store.proofs.Going.{fails_after}
 use Rattle.ftd_store.proofs.Telling.{reads_on, then_reads}
-use Rattle.ftd_check.specs.Accounts.{AreNames, ChecksAccount, ChecksAccounts, name_read}
+use Rattle.ftd_check.specs.Accounts.{AreNames, ChecksAccount, ChecksAccounts, ShowsBad, name_read}
+use Rattle.ftd_check.specs.declared.soundness.Part.{Part}
+use Rattle.ftd_check.specs.declared.soundness.Part.TheVariants as part
 use Rattle.ftd_check.specs.declared.sizes.Sizes.{Sizes}
 use Rattle.ftd_check.proofs.AccountsChecked.{SoFar, none_read, no_such_names, none_so_far}
 use Rattle.ftd_check.proofs.AccountsChecked.{one_unsound, one_more_sound, all_so_far}
@@ -30,7 +32,8 @@ returns-in_default g c =
     let given = c.args.given.now in
     let holidays : List ℕ = holidays_of c.args.holidays.now in
     record {
-      call = reads_on None (ChecksAccounts given holidays) c.in_ok-accounts.ensures.call
+      call = reads_on (Err part.Accounts) (ChecksAccounts given holidays)
+          c.in_ok-accounts.ensures.call
           (λ t read. none_read t given holidays
           (subst (λ (f : Option (Vec NamedAccount Global)). AccountsByRow f t) c.in_default.is
           read));
@@ -41,7 +44,8 @@ returns-then-not-are_names g c =
     let given = c.args.given.now in
     let holidays : List ℕ = holidays_of c.args.holidays.now in
     record {
-      call = reads_on None (ChecksAccounts given holidays) c.in_ok-accounts.ensures.call
+      call = reads_on (Err part.Accounts) (ChecksAccounts given holidays)
+          c.in_ok-accounts.ensures.call
           (λ t read. no_such_names t given holidays c.deref.result.now
           (listed c.in_ok-accounts.field-0 c.in-Some.accounts c.deref.result.now t c.in-Some.is
           c.deref.ensures.value read)
@@ -78,13 +82,14 @@ returns-in_default-2 g c =
     let holidays : List ℕ = holidays_of c.args.holidays.now in
     let account = c.in-Some-split_first.account.now in
     record {
-      call = then_reads None (ChecksAccounts given holidays) c.loop-account.invariant.call
-          c.in_ok-own.ensures.call
-          (λ t so_far one. one_unsound t given holidays _ c.loop-account.left.now
+      call = then_reads (Err c.in-Ok.part) (ChecksAccounts given holidays)
+          c.loop-account.invariant.call c.in_ok-own.ensures.call
+          (λ t so_far one. subst (λ (p : Part). ShowsBad given holidays p t) (sym c.in-Ok.ensures)
+          (one_unsound t given holidays _ c.loop-account.left.now
           c.loop-account.sizes so_far account c.in-Some-split_first.later.now
           c.in-Some-split_first.ensures.cases.0
           (subst (λ (f : Option Sizes). ChecksAccount account given holidays f t)
-          c.in_default-2.is one));
+          c.in_default-2.is one)));
     }
 
 pub loop-account-preserved : goal.loop-account-preserved
@@ -114,7 +119,7 @@ returns g c =
     let given = c.args.given.now in
     let holidays : List ℕ = holidays_of c.args.holidays.now in
     record {
-      call = reads_on (Some c.loop-account.sizes) (ChecksAccounts given holidays)
+      call = reads_on (Ok c.loop-account.sizes) (ChecksAccounts given holidays)
           c.loop-account.invariant.call
           (λ t so_far. all_so_far t given holidays _ c.loop-account.left.now
           c.loop-account.sizes so_far
