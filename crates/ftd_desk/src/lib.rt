@@ -4,6 +4,7 @@
 mod answering;
 mod books;
 mod bounds;
+mod checking;
 mod counts;
 mod desk;
 mod journals;
@@ -14,4 +15,5 @@ mod listed;
 mod requests;
 
 pub use crate::desk::Desk;
+pub use ftd_check::{Part, Sizes, Soundness};
 pub use ftd_questions::DueFault;
