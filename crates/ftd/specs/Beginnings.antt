@@ -44,7 +44,7 @@ beginning_of_request (request.Correct number correction) = Needs
 beginning_of_request (request.Question asked) = beginning_of_question asked
 
 -- a job; a trial of an import makes no file, nor do the years of all accounts, of which a new desk
--- has none, nor what is due, nor does a journal
+-- has none, nor what is due, nor does a journal, nor a check
 abbrev pub beginning_of : Job → Beginning
 beginning_of (job.Import kind file is_trial) = beginning_of_import kind is_trial
 beginning_of (job.Ask format asked) = beginning_of_request asked
@@ -52,3 +52,4 @@ beginning_of (job.AskNext asked) = beginning_of_request asked
 beginning_of (job.OpenYears year) = Needs
 beginning_of (job.Settle asked) = Needs
 beginning_of (job.Journal account) = Needs
+beginning_of job.Check = Needs

@@ -20,7 +20,8 @@ pub(crate) enum Beginning {
 }
 
 /// What a job does about a file that is not there. A trial of an import makes none, nor do the
-/// years of all accounts, of which a new desk has none, nor what is due, nor does a journal.
+/// years of all accounts, of which a new desk has none, nor what is due, nor does a journal, nor a
+/// check.
 pub(crate) fn of_job(job: &Job) -> Beginning
     ensures { result ≡ beginning_of job.now }
 {
@@ -31,7 +32,9 @@ pub(crate) fn of_job(job: &Job) -> Beginning
             ..
         } => of_import(*sheet, *is_trial),
         Job::Ask { request, .. } | Job::AskNext { request } => of_request(request),
-        Job::OpenYears { .. } | Job::Settle(_) | Job::Journal { .. } => Beginning::Needs,
+        Job::OpenYears { .. } | Job::Settle(_) | Job::Journal { .. } | Job::Check => {
+            Beginning::Needs
+        }
     }
 }
 

@@ -44,12 +44,13 @@ Tells {X} read said = TellsAs (λ (x : X). x) read said
 
 -- what a subcommand asks: the deposits of pay runs from standard input; or a server, a shell, an
 -- import of a sheet, in earnest or on trial, a year of each account that has the year before open,
--- that what is due on a day is recorded as paid, the journal of all or of one account, or a request
--- to the desk in a database, for which so many seconds are waited. A correction with no number is to
--- be asked under the next one: it is asked under the greatest, to which the desk answers how many
--- there are (NumberSkipped), unless it answers otherwise, and then under one more than these
--- (`with_number` of `ftd_machine`). So is a pay run or a payment that has the word `next` in the
--- place of its number: it is asked under the least number above all that its account has used.
+-- that what is due on a day is recorded as paid, the journal of all or of one account, whether the
+-- tables are as requests made them, or a request to the desk in a database, for which so many
+-- seconds are waited. A correction with no number is to be asked under the next one: it is asked
+-- under the greatest, to which the desk answers how many there are (NumberSkipped), unless it
+-- answers otherwise, and then under one more than these (`with_number` of `ftd_machine`). So is a
+-- pay run or a payment that has the word `next` in the place of its number: it is asked under the
+-- least number above all that its account has used.
 pub data Wanted : Type 0 where
   plain : (account : Text) (year : ℕ) (holidays : List ℕ) → Wanted
   serve : (db : Text) (wait port connections idle silence duration : ℕ) → Wanted
@@ -58,6 +59,7 @@ pub data Wanted : Type 0 where
   open_years : (db : Text) (wait year : ℕ) → Wanted
   settle : (db : Text) (wait : ℕ) (account : Text) (due paid : ℕ) → Wanted
   journal : (db : Text) (wait : ℕ) (account : Option Text) → Wanted
+  check : (db : Text) (wait : ℕ) → Wanted
   ask : (db : Text) (wait : ℕ) (format : Format) (request : Request) → Wanted
   ask_next : (db : Text) (wait : ℕ) (request : Request) → Wanted
 
@@ -135,6 +137,12 @@ journal_of rows =
     then_with (whole_in word.Wait rows) (λ wait.
     Ok (journal db wait (first_of (word_text word.JournalAccount) rows))))
 
+abbrev pub check_of : List Row → Result Wanted WordFault
+check_of rows =
+    then_with (text_in word.Db rows) (λ db.
+    then_with (whole_in word.Wait rows) (λ wait.
+    Ok (check db wait)))
+
 -- a request to the desk in the database: one that takes the next number under that, any other in
 -- the format that is asked for
 abbrev pub asked_as : List Row → Format → Request → Result Wanted WordFault
@@ -179,5 +187,6 @@ wanted_of today (name.Import sheet) rows = import_of sheet rows
 wanted_of today name.OpenYears rows = open_years_of rows
 wanted_of today name.Settle rows = settle_of today rows
 wanted_of today name.Journal rows = journal_of rows
+wanted_of today name.Check rows = check_of rows
 wanted_of today (name.Verb verb) rows =
     then_with (request_of today verb rows) (asked_by verb rows)

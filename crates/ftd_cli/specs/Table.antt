@@ -32,6 +32,7 @@ name_text name.Plain = codes "plain"
 name_text name.Serve = codes "serve"
 name_text name.Shell = codes "shell"
 name_text name.Journal = codes "journal"
+name_text name.Check = codes "check"
 name_text (name.Import sheet) = sheet_text sheet
 name_text name.OpenYears = codes "open-years"
 name_text name.Settle = codes "settle"
@@ -53,6 +54,7 @@ words_of name.Serve =
 words_of name.Shell =
     word.Db ∷ word.Wait ∷ word.Echo ∷ word.Stop ∷ word.Script ∷ []
 words_of name.Journal = word.Db ∷ word.Wait ∷ word.JournalAccount ∷ []
+words_of name.Check = word.Db ∷ word.Wait ∷ []
 words_of (name.Import sheet) = word.Db ∷ word.Wait ∷ word.Check ∷ word.CsvFile ∷ []
 words_of name.OpenYears = word.Db ∷ word.Wait ∷ word.Field field.Year ∷ []
 words_of name.Settle =
@@ -228,6 +230,7 @@ all_names =
     ∷ name.Verb verb.CorrectAccount
     ∷ name.Verb verb.ChangeHoliday
     ∷ name.Journal
+    ∷ name.Check
     ∷ name.Shell
     ∷ name.Plain
     ∷ name.Serve ∷ []

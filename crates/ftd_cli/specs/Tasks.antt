@@ -10,8 +10,8 @@ use Rattle.clap.specs.declared.error.ErrorKind.{ErrorKind}
 use Rattle.clap.specs.declared.error.ErrorKind.TheVariants as kind
 use Rattle.ftd_verbs.specs.declared.field.Field.TheVariants as field
 use Rattle.ftd_cli.specs.Apps.{ftd_app}
-use Rattle.ftd_cli.specs.Asking.{Wanted, ask, ask_next, import, journal, open_years, plain, serve}
-use Rattle.ftd_cli.specs.Asking.{settle, shell, then_with, wanted_of}
+use Rattle.ftd_cli.specs.Asking.{Wanted, ask, ask_next, check, import, journal, open_years, plain}
+use Rattle.ftd_cli.specs.Asking.{serve, settle, shell, then_with, wanted_of}
 use Rattle.ftd_cli.specs.Escapes.{escaped, escaped_word}
 use Rattle.ftd_cli.specs.Table.{all_names, may_be_today, name_text, word_text}
 use Rattle.ftd_cli.specs.Values.{bad_value, text_in, whole_in}
@@ -74,6 +74,7 @@ job_view db wait (job.AskNext request) = ask_next db wait request
 job_view db wait (job.OpenYears year) = open_years db wait year
 job_view db wait (job.Settle asked) = settle db wait asked.account asked.due asked.paid
 job_view db wait (job.Journal account) = journal db wait account
+job_view db wait job.Check = check db wait
 
 -- the job, with the desk in the database
 abbrev pub in_database : List Row → Job → Result Wanted WordFault

@@ -266,6 +266,7 @@ pub fn task_for(
         Name::OpenYears => open_years(alloc, inner),
         Name::Settle => settle(alloc, today, inner),
         Name::Journal => journal(alloc, inner),
+        Name::Check => in_database(alloc, inner, Job::Check),
         Name::Verb(verb) => asked(alloc, verb, inner, request(alloc, today, verb, inner)?),
     }
 }

@@ -56,6 +56,8 @@ pub enum Name {
     Shell,
     /// The commands that make the same desk are printed.
     Journal,
+    /// Whether the file is as commands made it is printed.
+    Check,
     /// A sheet of CSV is imported.
     Import(Sheet),
     /// A year is opened of each account that has the year before open.
@@ -149,6 +151,7 @@ impl Name {
             Name::Serve => "serve",
             Name::Shell => "shell",
             Name::Journal => "journal",
+            Name::Check => "check",
             Name::Import(sheet) => sheet_text(sheet),
             Name::OpenYears => "open-years",
             Name::Settle => "settle",
@@ -176,6 +179,7 @@ impl Name {
             Name::Serve => &[Db, Wait, Port, Connections, Idle, Silence, Duration],
             Name::Shell => &[Db, Wait, Echo, Stop, Script],
             Name::Journal => &[Db, Wait, JournalAccount],
+            Name::Check => &[Db, Wait],
             Name::Import(_) => &[Db, Wait, Check, CsvFile],
             Name::OpenYears => &[Db, Wait, Word::Field(Field::Year)],
             Name::Settle => &[Db, Wait, Word::Field(Field::Account), DueDay, PaidDay],
@@ -347,7 +351,7 @@ const LAST_PORT: i64 = 65_535;
 const MOST_CONNECTIONS: i64 = 1_000_000;
 
 /// The subcommands, as help lists them: in the order in which an employer needs them.
-pub const NAMES: [Name; 37] = [
+pub const NAMES: [Name; 38] = [
     Name::Verb(Verb::Calendar),
     Name::Verb(Verb::Enrol),
     Name::Verb(Verb::Report),
@@ -382,6 +386,7 @@ pub const NAMES: [Name; 37] = [
     Name::Verb(Verb::CorrectAccount),
     Name::Verb(Verb::ChangeHoliday),
     Name::Journal,
+    Name::Check,
     Name::Shell,
     Name::Plain,
     Name::Serve,

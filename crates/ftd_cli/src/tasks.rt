@@ -67,6 +67,8 @@ pub enum Job {
     Journal {
         account: Option<AccountName>,
     },
+    /// Whether the tables are as requests made them.
+    Check,
 }
 
 /// A job, and the file of the desk's database.

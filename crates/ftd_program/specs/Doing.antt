@@ -4,6 +4,7 @@ use Rattle.sqlite.specs.Store as store
 use Rattle.ftd_desk.specs.declared.desk.Desk.{Desk}
 use Rattle.ftd_cli.specs.declared.tasks.Job.{Job}
 use Rattle.ftd_cli.specs.declared.tasks.Job.TheVariants as job
+use Rattle.ftd_program.specs.Checking.{Checks}
 use Rattle.ftd_program.specs.Journals.{Journals}
 use Rattle.ftd_program.specs.OpenYears.{OpensYears}
 use Rattle.ftd_program.specs.Performing.{Asks, AsksNext, PerformsImport, PerformsTrial}
@@ -28,5 +29,7 @@ module _ {S O E : Type 0} (g : store.Ghosts S) (o_taken : O → Option (List ℕ
   Does old new input db (job.Settle asked) =
       Settles g o_taken o_failed e_taken e_failed db asked.account asked.due out err p old new
       asked.paid
+  Does old new input db job.Check =
+      Checks g o_taken o_failed e_taken e_failed out err p old new db
   Does old new input db (job.Journal account) =
       Journals g o_taken o_failed e_taken e_failed out err p old new db account

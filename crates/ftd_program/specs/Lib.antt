@@ -16,6 +16,7 @@ pub mod Mending
 pub mod Numbering
 pub mod Performing
 pub mod OpenYears
+pub mod Checking
 pub mod Settling
 pub mod Journals
 pub mod Doing

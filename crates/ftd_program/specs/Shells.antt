@@ -33,10 +33,17 @@ abbrev pub reads_file : Job → Bool
 reads_file (job.Import sheet file is_trial) = true
 reads_file other = false
 
--- the job that a task does with a desk, if it is one that a shell does, which does imports or not
+-- a shell does each job but imports, and those where it does imports
+abbrev pub is_for_shell : Bool → Job → Bool
+is_for_shell does_imports asked = does_imports || not (reads_file asked)
+
+-- the job, if it is one that a shell does, which does imports or not
+abbrev pub job_if : Bool → Job → Option Job
+job_if does_imports asked = if is_for_shell does_imports asked then Some asked else None
+
+-- the job that a task does with a desk, if it is such a one
 abbrev pub job_of : Bool → Task → Option Job
-job_of does_imports (task.Local local) =
-    if does_imports || not (reads_file local.job) then Some local.job else None
+job_of does_imports (task.Local local) = job_if does_imports local.job
 job_of does_imports other = None
 
 -- what stays the same in a shell: the file of its desk, as hints name it, whether it does imports,

@@ -7,6 +7,7 @@ mod added;
 mod added_notes;
 mod calendar;
 mod changes;
+mod checking;
 mod collection;
 mod deposits;
 mod differences;

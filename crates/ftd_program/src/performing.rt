@@ -19,6 +19,7 @@ ghost use Rattle.ftd_replies.specs.Replies.{reply_text};
 ghost use Rattle.ftd_program.specs.Summaries.{stop_status, stop_text, summary_status};
 
 use crate::added_notes::put_added;
+use crate::checking::check;
 use crate::journal::journal;
 use crate::mending::{known_for, or_nothing};
 use crate::noting::answer_then_note;
@@ -50,9 +51,10 @@ pub struct JobEnd<O, E> {
 }
 
 /// Does the job of a task, with the desk of this file: asks its request of the desk, perhaps under
-/// the next number, or opens a year of each account that has the year before open, or records what is
-/// left of the deposits due on a day as paid, or prints a journal, or imports the entries of the
-/// input, CSV with the header of their sheet, or tells what an import would say of them. What came of it goes to `out`, and the line of a refusal or of a fault to
+/// the next number, or opens a year of each account that has the year before open, or records what
+/// is left of the deposits due on a day as paid, or checks the tables, or prints a journal, or
+/// imports the entries of the input, CSV with the header of their sheet, or tells what an import
+/// would say of them. What came of it goes to `out`, and the line of a refusal or of a fault to
 /// `err`. What the desk took stands, also where `out` fails: the status is 3 then, and a prefix of
 /// the text was written. `progress` is told how far an import is, and its end before anything is
 /// printed.
@@ -79,6 +81,7 @@ pub fn perform<S: Alter, O: Target, E: Target, P: Progress>(
         Job::AskNext { request } => ask_next(desk, db, request, out, err),
         Job::OpenYears { year } => open_years(alloc, desk, db, year, out, err),
         Job::Settle(asked) => settle(alloc, desk, db, &asked, out, err),
+        Job::Check => check(desk, db, out, err),
         Job::Journal { account } => journal(desk, db, account, out, err),
     }
 }

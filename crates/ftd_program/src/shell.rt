@@ -8,8 +8,8 @@ ghost use Rattle.ftd_replies.specs.Putting.{IsPut};
 ghost use Rattle.ftd_program.specs.Shells.{AnswersCommand, AnswersLine, AnswersNext, AnswersPiece};
 ghost use Rattle.ftd_program.specs.Shells.{AnswersScript, AnswersWords, DoesJob, EndsUnread};
 ghost use Rattle.ftd_program.specs.Shells.{HasNoMemory, TellsBad, command_text, echo_text, greater};
-ghost use Rattle.ftd_program.specs.Shells.{is_last, job_of, named_text, reads_file, said_text};
-ghost use Rattle.ftd_program.specs.Shells.{ways_of};
+ghost use Rattle.ftd_program.specs.Shells.{is_for_shell, is_last, job_if, job_of, named_text};
+ghost use Rattle.ftd_program.specs.Shells.{reads_file, said_text, ways_of};
 
 use crate::performing::{JobEnd, fail_output, perform, print_line};
 use crate::progress::Quiet;
@@ -90,18 +90,30 @@ fn reads_file(job: &Job) -> bool
     matches!(job, Job::Import { .. })
 }
 
+/// Whether a shell does the job, which does imports or not.
+fn is_for_shell(job: &Job, does_imports: bool) -> bool
+    ensures { result ≡ is_for_shell does_imports job.now }
+{
+    does_imports || !reads_file(job)
+}
+
+/// The job, if it is one that a shell does, which does imports or not.
+fn job_if(job: Job, does_imports: bool) -> Option<Job>
+    ensures { result ≡ job_if does_imports job }
+{
+    if is_for_shell(&job, does_imports) {
+        Some(job)
+    } else {
+        None
+    }
+}
+
 /// The job that a task does with a desk, if it is one that a shell does, which does imports or not.
 fn job_of(task: Task, does_imports: bool) -> Option<Job>
     ensures { result ≡ job_of does_imports task }
 {
     match task {
-        Task::Local(task) => {
-            if does_imports || !reads_file(&task.job) {
-                Some(task.job)
-            } else {
-                None
-            }
-        }
+        Task::Local(task) => job_if(task.job, does_imports),
         _ => None,
     }
 }

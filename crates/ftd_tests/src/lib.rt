@@ -7,6 +7,8 @@ mod asking;
 #[cfg(test)]
 mod changed;
 #[cfg(test)]
+mod checked;
+#[cfg(test)]
 mod desks;
 #[cfg(test)]
 mod exchanges;

@@ -21,7 +21,7 @@ fn is_at(word: &str) -> bool {
 /// Whether a server answers the command: it reads no files, and has no desk but its own.
 fn is_served(name: Name) -> bool {
     match name {
-        Name::Verb(_) | Name::OpenYears | Name::Settle | Name::Journal => true,
+        Name::Verb(_) | Name::OpenYears | Name::Settle | Name::Journal | Name::Check => true,
         Name::Plain | Name::Serve | Name::Shell | Name::Import(_) => false,
     }
 }
