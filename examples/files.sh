@@ -1,7 +1,8 @@
 #!/bin/bash
 # What the program says of files that it can't use, each beside what it has to say: a directory, a folder that is not there, a text,
 # somebody else's database, one of a later version, one cut short, one with a byte that flipped, one that sqlite3 wrote to, one that
-# may not be read, one that another program holds, a disk that is full, a log that can't be copied; and that a trial leaves a file of an older version.
+# may not be read, one that another program holds, a disk that is full, a log that can't be copied; that a trial leaves a file of an older version; and
+# what a check says of files whose rows were changed.
 # A server that reads its file twice before it listens is told by strace. It needs sqlite3, curl and strace. Usage: examples/files.sh PATH-OF-FTD [PORT]
 set -u
 ftd=$(realpath "${1:?the path of ftd}")
@@ -70,6 +71,29 @@ says 'failed NotOurs 3' "$ftd" "${ask[@]}" foreign.db
 # a file that sqlite3 made of the desk's, which has no sums, is opened too
 sqlite3 office.db .dump | sqlite3 newer.db
 says '2024-01-05 monthly lookback 0' "$ftd" "${ask[@]}" newer.db
+# what a check says of a file whose rows sqlite3 changed: each begins as a copy of the one above, which is sound
+says 'sound accounts 1 years 1 runs 0 payments 0 obligations 0 0' "$ftd" check --db newer.db
+while IFS='|' read -r wanted change; do
+    cp newer.db changed.db
+    sqlite3 changed.db "$change"
+    says "$wanted" "$ftd" check --db changed.db
+    hints 'something other than ftd changed the file: go back to a copy of it, or make a new file of a journal that you kept'
+done << 'END'
+unsound holidays 1|INSERT INTO holiday VALUES (19800, 2025)
+unsound holidays 1|INSERT INTO changed_holiday VALUES (19800, 1, 0, 2024)
+unsound accounts 1|UPDATE account SET name = 'Ash'
+unsound account ash 1|UPDATE year SET lookback = 1
+unsound account ash 1|UPDATE year SET opening = 1
+unsound account ash 1|INSERT INTO bucket VALUES ('ash', 19844, 19874, 0, 100, 19891)
+unsound account ash 1|INSERT INTO run VALUES ('ash', 1, 19851, 100, 0, 0, 0)
+unsound account ash 1|DELETE FROM account_form
+unsound rows 1|INSERT INTO run VALUES ('elm', 1, 19851, 100, 0, 0, 0)
+END
+# it is not a signature: another program can write what a command could have entered
+cp newer.db changed.db
+sqlite3 changed.db "INSERT INTO payment VALUES ('ash', 1, 19891, 19851, 100, 0)"
+says 'sound accounts 1 years 1 runs 0 payments 1 obligations 0 0' "$ftd" check --db changed.db
+rm changed.db
 sqlite3 newer.db "UPDATE ftd_meta SET version = 4"
 says 'failed Newer 4 3' "$ftd" "${ask[@]}" newer.db
 hints 'newer.db: a later version of ftd made it'
