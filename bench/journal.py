@@ -87,8 +87,8 @@ def memory_of(words, output=os.devnull):
     return int(said) / 1024
 
 
-def speed(program, folder, accounts, runs):
-    """Writes the journal of an office, and makes it again."""
+def made_office(program, folder, accounts, runs):
+    """Makes an office of so many accounts with so many runs each, and answers its file and the seconds that the import of the runs took."""
     chosen = random.Random(accounts)
     begin, sheet = os.path.join(folder, "begin.txt"), os.path.join(folder, "runs.csv")
     years = range(2014, 2024)
@@ -107,9 +107,15 @@ def speed(program, folder, accounts, runs):
             for run in range(runs):
                 day = f"{years[run * len(years) // runs]}-{run * 12 * len(years) // runs % 12 + 1:02}-{run % 28 + 1:02}"
                 out.write(f"e{number},{run + 1},{day},{chosen.randrange(9_000)}.10,{chosen.randrange(900)}.00,{chosen.randrange(300)}.05\n")
-    file, new, script = (os.path.join(folder, name) for name in ("office.db", "new.db", "journal.txt"))
+    file = os.path.join(folder, "office.db")
     measured([program, "shell", "--db", file, begin])
-    imported = measured([program, "import", "--db", file, sheet])
+    return file, measured([program, "import", "--db", file, sheet])
+
+
+def speed(program, folder, accounts, runs):
+    """Writes the journal of an office, and makes it again."""
+    file, imported = made_office(program, folder, accounts, runs)
+    new, script = (os.path.join(folder, name) for name in ("new.db", "journal.txt"))
     opened = measured([program, "accounts", "--db", file])
     written = measured([program, "journal", "--db", file], script)
     greatest = memory_of([program, "journal", "--db", file])
