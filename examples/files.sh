@@ -81,14 +81,17 @@ while IFS='|' read -r wanted change; do
 done << 'END'
 unsound holidays 1|INSERT INTO holiday VALUES (19800, 2025)
 unsound holidays 1|INSERT INTO changed_holiday VALUES (19800, 1, 0, 2024)
-unsound accounts 1|UPDATE account SET name = 'Ash'
+unsound accounts 1|INSERT INTO account VALUES ('Ash', 19723, 0)
 unsound account ash 1|UPDATE year SET lookback = 1
 unsound account ash 1|UPDATE year SET opening = 1
 unsound account ash 1|INSERT INTO bucket VALUES ('ash', 19844, 19874, 0, 100, 19891)
 unsound account ash 1|INSERT INTO run VALUES ('ash', 1, 19851, 100, 0, 0, 0)
 unsound account ash 1|DELETE FROM account_form
-unsound rows 1|INSERT INTO run VALUES ('elm', 1, 19851, 100, 0, 0, 0)
 END
+# rows of an account that is not there are found when the file is opened
+cp newer.db changed.db
+sqlite3 changed.db "INSERT INTO run VALUES ('elm', 1, 19851, 100, 0, 0, 0)"
+says 'failed NotOurs 3' "$ftd" check --db changed.db
 # it is not a signature: another program can write what a command could have entered
 cp newer.db changed.db
 sqlite3 changed.db "INSERT INTO payment VALUES ('ash', 1, 19891, 19851, 100, 0)"
