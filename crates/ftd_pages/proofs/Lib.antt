@@ -1,0 +1,3 @@
+pub mod EscapeFacts
+pub mod ValueFacts
+pub mod Words

@@ -1,0 +1,19 @@
+use Rattle.ftd_ports.proofs.WritingFacts.{then_writes, stops_in}
+use Rattle.ftd_pages.specs.Pages.{foot_of}
+use Rattle.ftd_pages.proofs.feet.write_due_foot.Goals as goal
+
+pub returns-in_err-write_all : goal.returns-in_err-write_all
+unfolding foot_of
+returns-in_err-write_all g c = stops_in _ c.from_residual.ensures.0 c.in_err-write_all.ensures
+
+pub returns-in_err-write_due_sums : goal.returns-in_err-write_due_sums
+unfolding foot_of
+returns-in_err-write_due_sums g c =
+    then_writes c.in_ok-write_all.ensures (stops_in _
+    c.from_residual-in_err-write_due_sums.ensures.0 c.in_err-write_due_sums.ensures)
+
+pub returns : goal.returns
+unfolding foot_of
+returns g c =
+    then_writes c.in_ok-write_all.ensures (then_writes c.in_ok-write_due_sums.ensures
+    c.write_all-2.ensures)

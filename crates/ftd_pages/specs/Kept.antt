@@ -1,0 +1,115 @@
+-- What is kept as a page.
+use Rattle.std.specs.Prelude.{ℕ, Bool, true, false, List, [], ◌∷◌, codes}
+use Rattle.std.specs.Fmt.{decimal}
+use Rattle.ftd_days.specs.Text.{quarter_text}
+use Rattle.ftd_machine.specs.declared.kept.KeptAccount.{KeptAccount}
+use Rattle.ftd_machine.specs.declared.kept.KeptHoliday.{KeptHoliday}
+use Rattle.ftd_machine.specs.declared.kept.KeptPayment.{KeptPayment}
+use Rattle.ftd_machine.specs.declared.kept.KeptRun.{KeptRun}
+use Rattle.ftd_machine.specs.declared.kept.KeptTotal.{KeptTotal}
+use Rattle.ftd_machine.specs.declared.kept.KeptYear.{KeptYear}
+use Rattle.ftd_machine.specs.declared.kept.KeptRows.{KeptRows}
+use Rattle.ftd_machine.specs.declared.kept.KeptRows.TheVariants as rows
+use Rattle.ftd_answers.specs.KeptForms.{account_fields, holiday_fields, payment_fields, run_fields}
+use Rattle.ftd_answers.specs.KeptForms.{total_fields, year_fields}
+use Rattle.ftd_pages.specs.Pages.{list_of, page_of, titled}
+use Rattle.ftd_pages.specs.Rows.{Shape}
+use Rattle.ftd_pages.specs.declared.frames.Frame.{Frame}
+use Rattle.ftd_pages.specs.declared.rows.Class.{Class}
+use Rattle.ftd_pages.specs.declared.rows.Class.TheVariants.{Plain, Void}
+
+-- the class of what may have been voided
+abbrev pub class_if : Bool → Class
+class_if true = Void
+class_if false = Plain
+
+-- ---- what a page shows of the rows: the fields of JSON, each with a word
+
+abbrev pub account_shape : Shape KeptAccount
+account_shape = record {
+  fields = account_fields;
+  words = codes "Account" ∷ codes "First day" ∷ codes "Carried" ∷ codes "Form" ∷ [];
+  class = λ x. Plain;
+}
+
+abbrev pub year_shape : List ℕ → Shape KeptYear
+year_shape account = record {
+  fields = year_fields account;
+  words = codes "Account" ∷ codes "Year" ∷ codes "Lookback total" ∷ codes "Opens as"
+      ∷ codes "Carried" ∷ codes "Turned on" ∷ codes "Lookback total first reported" ∷ [];
+  class = λ x. Plain;
+}
+
+abbrev pub total_shape : List ℕ → Shape KeptTotal
+total_shape account = record {
+  fields = total_fields account;
+  words = codes "Account" ∷ codes "Period" ∷ codes "Amount" ∷ codes "First reported" ∷ [];
+  class = λ x. Plain;
+}
+
+abbrev pub holiday_shape : Shape KeptHoliday
+holiday_shape = record {
+  fields = holiday_fields;
+  words = codes "Day" ∷ codes "Added" ∷ codes "Holiday" ∷ [];
+  class = λ x. Plain;
+}
+
+abbrev pub run_shape : List ℕ → Shape KeptRun
+run_shape account = record {
+  fields = run_fields account;
+  words = codes "Account" ∷ codes "Run" ∷ codes "Payday" ∷ codes "Income tax"
+      ∷ codes "Social security" ∷ codes "Medicare" ∷ codes "Void" ∷ [];
+  class = λ x. class_if x.voided;
+}
+
+abbrev pub payment_shape : List ℕ → Shape KeptPayment
+payment_shape account = record {
+  fields = payment_fields account;
+  words = codes "Account" ∷ codes "Payment" ∷ codes "Paid on" ∷ codes "For" ∷ codes "Amount"
+      ∷ codes "Counts for" ∷ codes "Void" ∷ [];
+  class = λ x. class_if x.voided;
+}
+
+-- ---- the pages
+
+unfoldable pub accounts_page : Frame → List KeptAccount → List ℕ
+accounts_page frame listed =
+    let title = titled (codes "Accounts" ∷ []) in
+    page_of frame title (list_of account_shape title (codes "No account is enrolled.") [] listed)
+
+unfoldable pub years_page : Frame → List ℕ → List KeptYear → List ℕ
+years_page frame account listed =
+    let title = titled (codes "Open years of " ∷ account ∷ []) in
+    page_of frame title
+    (list_of (year_shape account) title (codes "No year is open.") [] listed)
+
+unfoldable pub reported_page : Frame → List ℕ → List KeptTotal → List ℕ
+reported_page frame account listed =
+    let title = titled (codes "Reported totals of " ∷ account ∷ []) in
+    page_of frame title
+    (list_of (total_shape account) title (codes "No total was reported.") [] listed)
+
+unfoldable pub holidays_page : Frame → ℕ → List KeptHoliday → List ℕ
+holidays_page frame year listed =
+    let title = titled (codes "Holidays of " ∷ decimal year ∷ []) in
+    page_of frame title (list_of holiday_shape title (codes "No holiday was given.") [] listed)
+
+unfoldable pub runs_page : Frame → List ℕ → ℕ → List KeptRun → List ℕ
+runs_page frame account quarter listed =
+    let title = titled (codes "Pay runs of " ∷ account ∷ codes ", " ∷ quarter_text quarter ∷ []) in
+    page_of frame title
+    (list_of (run_shape account) title (codes "The quarter has no pay runs.") [] listed)
+
+unfoldable pub payments_page : Frame → List ℕ → ℕ → List KeptPayment → List ℕ
+payments_page frame account quarter listed =
+    let title = titled (codes "Payments of " ∷ account ∷ codes ", " ∷ quarter_text quarter ∷ []) in
+    page_of frame title
+    (list_of (payment_shape account) title (codes "The quarter has no payments.") [] listed)
+
+abbrev pub kept_page : Frame → KeptRows → List ℕ
+kept_page frame (rows.Accounts listed) = accounts_page frame listed
+kept_page frame (rows.Years account listed) = years_page frame account listed
+kept_page frame (rows.Reported account listed) = reported_page frame account listed
+kept_page frame (rows.Holidays year listed) = holidays_page frame year listed
+kept_page frame (rows.Runs account quarter listed) = runs_page frame account quarter listed
+kept_page frame (rows.Payments account quarter listed) = payments_page frame account quarter listed

@@ -1,0 +1,2 @@
+-- What private contracts and proofs alone cite.
+pub mod Cells

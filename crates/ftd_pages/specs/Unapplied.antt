@@ -1,0 +1,25 @@
+-- Money that counts for nothing as a page.
+use Rattle.std.specs.Prelude.{ℕ, List, [], ◌∷◌, codes}
+use Rattle.ftd_days.specs.Text.{day_text}
+use Rattle.ftd_machine.specs.declared.facts.UnappliedList.{UnappliedList}
+use Rattle.ftd_machine.specs.declared.lists.UnappliedRow.{UnappliedRow}
+use Rattle.ftd_answers.specs.Unapplied.{unapplied_fields}
+use Rattle.ftd_pages.specs.Pages.{list_of, page_of, titled}
+use Rattle.ftd_pages.specs.Rows.{Shape}
+use Rattle.ftd_pages.specs.declared.frames.Frame.{Frame}
+use Rattle.ftd_pages.specs.declared.rows.Class.TheVariants.{Plain}
+
+-- the fields of CSV and JSON, each with a word
+abbrev pub unapplied_shape : Shape UnappliedRow
+unapplied_shape = record {
+  fields = unapplied_fields;
+  words = codes "Account" ∷ codes "Payment" ∷ codes "Deposit period from"
+      ∷ codes "Deposit period to" ∷ codes "Amount" ∷ codes "Paid" ∷ codes "Over" ∷ [];
+  class = λ x. Plain;
+}
+
+abbrev pub unapplied_page : Frame → UnappliedList → List ℕ
+unapplied_page frame x =
+    let title = titled (codes "Money that counts for nothing until " ∷ day_text x.until ∷ []) in
+    page_of frame title
+    (list_of unapplied_shape title (codes "All money counts for a deposit.") [] x.rows)

@@ -1,0 +1,188 @@
+//! Pages of what is due: over all accounts, and in an account's due list.
+
+ghost use Rattle.ftd_ports.specs.Writing.{Writes};
+ghost use Rattle.ftd_machine.specs.Agenda.{left_of};
+ghost use Rattle.ftd_rules.specs.Verdicts.{amount_of};
+ghost use Rattle.ftd_answers.specs.Agendas.{left_cents};
+ghost use Rattle.ftd_pages.specs.Dues.{agenda_page, agenda_shape, due_page, due_shape, owed_page};
+
+use crate::columns::{
+    ACCOUNT, AMOUNT, DUE, FIRST, FORM, LAST, LEFT, MAKEUP, PAID, PAY_BY, RULE, VERDICT,
+};
+use crate::feet::Foot;
+use crate::frames::Frame;
+use crate::pages::{Page, write_page};
+use crate::rows::{Class, PageRow, Part, write_fields};
+use ftd_answers::{RowAmount, Value, left_of, total};
+use ftd_days::Cents;
+use ftd_machine::{Agenda, AgendaRow, DueList, OwedList};
+use ftd_ports::{Target, WriteFault};
+use ftd_rules::DueRow;
+
+/// The amount of an obligation.
+#[derive(Drop)]
+struct Amount;
+
+/// What is left to pay of an obligation.
+#[derive(Drop)]
+struct AmountLeft;
+
+impl RowAmount<DueRow> for Amount {
+    ghost counted = { λ counts row. amount_of row };
+
+    fn cents(&self, row: &DueRow) -> Cents {
+        row.obligation.cents
+    }
+}
+
+impl RowAmount<DueRow> for AmountLeft {
+    ghost counted = { λ counts row. left_of row };
+
+    fn cents(&self, row: &DueRow) -> Cents {
+        left_of(row)
+    }
+}
+
+impl RowAmount<AgendaRow> for AmountLeft {
+    ghost counted = { λ counts row. left_cents row };
+
+    fn cents(&self, row: &AgendaRow) -> Cents {
+        left_of(&row.row)
+    }
+}
+
+impl PageRow for AgendaRow {
+    ghost shape = { λ account. agenda_shape };
+
+    fn write_part<W: Target>(
+        &self,
+        account: &str,
+        part: Part,
+        target: &mut W,
+    ) -> Result<(), WriteFault> {
+        let obligation = self.row.obligation;
+        let fields = [
+            (DUE, Value::Day(obligation.due)),
+            (ACCOUNT, Value::Text(self.account.as_str())),
+            (FORM, Value::Form(self.form)),
+            (FIRST, Value::Day(obligation.first)),
+            (LAST, Value::Day(obligation.last)),
+            (RULE, Value::Rule(obligation.rule)),
+            (AMOUNT, Value::Amount(obligation.cents)),
+            (PAID, Value::Amount(self.row.paid)),
+            (LEFT, Value::Amount(left_of(&self.row))),
+            (PAY_BY, Value::Day(self.pay_by)),
+            (VERDICT, Value::Verdict(self.row.verdict)),
+        ];
+        write_fields(part, Class::Stands(self.row.verdict), &fields, target)
+    }
+}
+
+impl PageRow for DueRow {
+    ghost shape = { due_shape };
+
+    fn write_part<W: Target>(
+        &self,
+        account: &str,
+        part: Part,
+        target: &mut W,
+    ) -> Result<(), WriteFault> {
+        let obligation = self.obligation;
+        let fields = [
+            (DUE, Value::Day(obligation.due)),
+            (ACCOUNT, Value::Text(account)),
+            (FIRST, Value::Day(obligation.first)),
+            (LAST, Value::Day(obligation.last)),
+            (RULE, Value::Rule(obligation.rule)),
+            (AMOUNT, Value::Amount(obligation.cents)),
+            (PAID, Value::Amount(self.paid)),
+            (LEFT, Value::Amount(left_of(self))),
+            (MAKEUP, Value::Day(self.makeup)),
+            (VERDICT, Value::Verdict(self.verdict)),
+        ];
+        write_fields(part, Class::Stands(self.verdict), &fields, target)
+    }
+}
+
+/// Writes what is due until a day over all accounts and not paid as of a day, as a page. It takes
+/// no memory but what the target takes. Where the target fails, a prefix of the page was written,
+/// and it fails nowhere else.
+pub fn write_owed_page<W: Target>(
+    frame: &Frame<'_>,
+    owed: &OwedList,
+    target: &mut W,
+) -> Result<(), WriteFault>
+    ensures { Writes result (W.taken target.old) (W.taken target.new)
+        (W.failed target.new) (owed_page frame.now owed.now) }
+{
+    let rows = owed.rows.as_slice();
+    let page = Page {
+        title: &[
+            Value::Text("Deposits owed until "),
+            Value::Day(owed.until),
+            Value::Text(", as of "),
+            Value::Day(owed.as_of),
+        ],
+        sentence: "Nothing is owed.",
+        account: "",
+        foot: Foot::Left(total(&AmountLeft, rows)),
+    };
+    write_page(frame, &page, rows, target)
+}
+
+/// Writes what is due between two days over all accounts, as of a day, as a page. It takes no
+/// memory but what the target takes. Where the target fails, a prefix of the page was written, and
+/// it fails nowhere else.
+pub fn write_agenda_page<W: Target>(
+    frame: &Frame<'_>,
+    agenda: &Agenda,
+    target: &mut W,
+) -> Result<(), WriteFault>
+    ensures { Writes result (W.taken target.old) (W.taken target.new)
+        (W.failed target.new) (agenda_page frame.now agenda.now) }
+{
+    let rows = agenda.rows.as_slice();
+    let page = Page {
+        title: &[
+            Value::Text("Deposits due from "),
+            Value::Day(agenda.from),
+            Value::Text(" to "),
+            Value::Day(agenda.to),
+            Value::Text(", as of "),
+            Value::Day(agenda.as_of),
+        ],
+        sentence: "Nothing is due.",
+        account: "",
+        foot: Foot::Left(total(&AmountLeft, rows)),
+    };
+    write_page(frame, &page, rows, target)
+}
+
+/// Writes the due list of an account's quarter as of a day, as a page. It takes no memory but what
+/// the target takes. Where the target fails, a prefix of the page was written, and it fails nowhere
+/// else.
+pub fn write_due_page<W: Target>(
+    frame: &Frame<'_>,
+    list: &DueList,
+    target: &mut W,
+) -> Result<(), WriteFault>
+    ensures { Writes result (W.taken target.old) (W.taken target.new)
+        (W.failed target.new) (due_page frame.now list.now) }
+{
+    let account = list.account.as_str();
+    let rows = list.rows.as_slice();
+    let page = Page {
+        title: &[
+            Value::Text("Due list of "),
+            Value::Text(account),
+            Value::Text(", "),
+            Value::Quarter(list.quarter),
+            Value::Text(", as of "),
+            Value::Day(list.as_of),
+        ],
+        sentence: "The quarter has no deposits.",
+        account,
+        foot: Foot::Due(total(&Amount, rows), total(&AmountLeft, rows)),
+    };
+    write_page(frame, &page, rows, target)
+}

@@ -1,0 +1,93 @@
+//! What stands around the list of a page.
+
+ghost use Rattle.ftd_ports.specs.Writing.{Writes};
+ghost use Rattle.ftd_pages.specs.Pages.{sheet_within, style_text, ways_from, ways_text};
+
+use ftd_answers::day_bytes;
+use ftd_days::Day;
+use ftd_ports::{Target, WriteFault, write_all, write_pieces};
+
+/// What stands around the list of a page.
+#[derive(Clone, Copy, Debug)]
+pub struct Frame<'a> {
+    /// Where its style comes from.
+    pub style: Style<'a>,
+    /// Which ways lead to other pages.
+    pub ways: Ways,
+}
+
+/// Where the style of a page comes from.
+#[derive(Clone, Copy, Debug)]
+pub enum Style<'a> {
+    /// The page has this style sheet within, so that it needs nothing else.
+    Within(&'a str),
+    /// The page links the style sheet of a server.
+    Linked,
+}
+
+/// The ways from a page to others.
+#[derive(Clone, Copy, Debug)]
+pub enum Ways {
+    /// There are none.
+    Nowhere,
+    /// To what is owed as of today until a day, to what is due from today to that day, and to the
+    /// accounts.
+    From {
+        /// The day as of which the pages tell.
+        today: Day,
+        /// The last day on which what they tell is due.
+        until: Day,
+    },
+}
+
+/// Writes a style sheet within a page.
+fn write_sheet<W: Target>(sheet: &str, target: &mut W) -> Result<(), WriteFault>
+    ensures { Writes result (W.taken target.old) (W.taken target.new)
+        (W.failed target.new) (sheet_within sheet.now) }
+{
+    write_pieces(target, &[b"<style>\n", sheet.as_bytes(), b"</style>\n"])
+}
+
+/// Writes the style of a page.
+pub fn write_style<W: Target>(style: Style<'_>, target: &mut W) -> Result<(), WriteFault>
+    ensures { Writes result (W.taken target.old) (W.taken target.new)
+        (W.failed target.new) (style_text style.entry) }
+{
+    match style {
+        Style::Within(sheet) => write_sheet(sheet, target),
+        Style::Linked => write_all(target, b"<link rel=\"stylesheet\" href=\"/style.css\">\n"),
+    }
+}
+
+/// Writes the ways from a page to others.
+fn write_ways_from<W: Target>(today: Day, until: Day, target: &mut W) -> Result<(), WriteFault>
+    ensures { Writes result (W.taken target.old) (W.taken target.new)
+        (W.failed target.new) (ways_from today until) }
+{
+    let (now, last) = (day_bytes(today), day_bytes(until));
+    let pieces: [&[u8]; 11] = [
+        b"<nav aria-label=\"Pages\"><a href=\"/owed/",
+        &now,
+        b"/",
+        &last,
+        b"/html\">Owed</a> <a href=\"/agenda/",
+        &now,
+        b"/",
+        &last,
+        b"/",
+        &now,
+        b"/html\">Due</a> <a href=\"/lists/accounts/html\">Accounts</a></nav>\n",
+    ];
+    write_pieces(target, &pieces)
+}
+
+/// Writes the ways from a page to others, if it has any.
+pub fn write_ways<W: Target>(ways: Ways, target: &mut W) -> Result<(), WriteFault>
+    ensures { Writes result (W.taken target.old) (W.taken target.new)
+        (W.failed target.new) (ways_text ways) }
+{
+    match ways {
+        Ways::Nowhere => Ok(()),
+        Ways::From { today, until } => write_ways_from(today, until, target),
+    }
+}
