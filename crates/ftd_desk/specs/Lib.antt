@@ -3,6 +3,7 @@ pub mod Counted
 pub mod Desks
 pub mod Opened
 pub mod Trials
+pub mod Unrefused
 pub mod Words
 pub mod Telling
 pub mod Shown

@@ -9,6 +9,7 @@ ghost use Rattle.ftd_sql.specs.States.{CrashKeeps};
 ghost use Rattle.ftd_desk.specs.Shown.{ShowsAsked};
 ghost use Rattle.ftd_desk.specs.Words.{Handles, RepairsRows, HandlesAll};
 
+mod all_or_none;
 mod checking;
 mod listing;
 mod mending;

@@ -13,7 +13,9 @@ mod known;
 pub mod laws;
 mod listed;
 mod requests;
+mod unrefused;
 
 pub use crate::desk::Desk;
+pub use crate::unrefused::AllOrNone;
 pub use ftd_check::{Part, Sizes, Soundness};
 pub use ftd_questions::DueFault;
