@@ -3,6 +3,7 @@ mod JournalValues
 mod FewAdded
 mod LineDays
 mod LineFacts
+mod LineRequests
 mod LineTasks
 mod LineValues
 mod LineVerbs

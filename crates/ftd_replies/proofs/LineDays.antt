@@ -22,7 +22,8 @@ use Rattle.ftd_verbs.specs.declared.field.Field.TheVariants as field
 use Rattle.ftd_verbs.specs.declared.rows.Verb.TheVariants as verb
 use Rattle.ftd_replies.proofs.LineTasks.{Asks, AsksBy, IsCommand, in_file, verb_asks, verb_shape}
 use Rattle.ftd_replies.proofs.LineVerbs.{IsNumberText, no_fault}
-use Rattle.ftd_replies.proofs.Walked.{are_items, end_fault, is_value, item_fault, items_fault}
+use Rattle.ftd_replies.specs.LineRequests.{is_value}
+use Rattle.ftd_replies.proofs.Walked.{are_items, end_fault, item_fault, items_fault}
 use Rattle.ftd_replies.proofs.Walked.{place, read, read_all, start}
 
 -- the subcommand

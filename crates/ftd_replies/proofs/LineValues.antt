@@ -24,7 +24,7 @@ use Rattle.ftd_days.proofs.Numerals.{digit_range, own, rest_digits}
 use Rattle.ftd_days.proofs.Years.{eq_not}
 use Rattle.ftd_rules.specs.Accounts.{is_account_name, is_name_byte}
 use Rattle.ftd_replies.proofs.CutLines.{is_printed, is_word}
-use Rattle.ftd_replies.proofs.Walked.{is_value}
+use Rattle.ftd_replies.specs.LineRequests.{is_value}
 
 -- ---- bytes
 

@@ -29,7 +29,8 @@ use Rattle.ftd_verbs.specs.declared.field.Field.TheVariants as field
 use Rattle.ftd_verbs.specs.declared.field.Kind.TheVariants as kind
 use Rattle.ftd_verbs.specs.declared.rows.Verb.TheVariants as verb
 use Rattle.ftd_replies.proofs.LineTasks.{Asks, IsCommand, verb_asks}
-use Rattle.ftd_replies.proofs.Walked.{Item, flag, is_value, items_fault, place}
+use Rattle.ftd_replies.specs.LineRequests.{is_value}
+use Rattle.ftd_replies.proofs.Walked.{Item, flag, items_fault, place}
 
 -- ---- the words of values
 

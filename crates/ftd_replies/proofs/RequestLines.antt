@@ -52,7 +52,8 @@ use Rattle.ftd_replies.proofs.LineVerbs.{mark_items, open_year_asks, option_item
 use Rattle.ftd_replies.proofs.LineVerbs.{post_asks, report_asks, report_year_asks, void_asks}
 use Rattle.ftd_replies.proofs.LineVerbs.{void_pay_asks}
 use Rattle.ftd_replies.proofs.ReadBack.{cents_back, day_back, number_back, quarter_back}
-use Rattle.ftd_replies.proofs.Walked.{is_value, place, text_of}
+use Rattle.ftd_replies.specs.LineRequests.{is_value}
+use Rattle.ftd_replies.proofs.Walked.{place, text_of}
 
 -- ---- the texts of values
 
@@ -91,7 +92,7 @@ number_word : (number : ℕ) → IsNumber number → is_word (decimal number) �
 number_word number h = (number_value number (omega arith)).0
 
 -- a number is spelled by its digits, which arguments take
-number_text : (number : ℕ) → IsNumber number → IsNumberText (decimal number) number
+pub number_text : (number : ℕ) → IsNumber number → IsNumberText (decimal number) number
 number_text number h = record {
   value = (number_value number (omega arith)).1;
   spells = number_back number h;

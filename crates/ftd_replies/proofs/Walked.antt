@@ -12,13 +12,9 @@ use Rattle.clap.specs.Simple.{Shape, rows_at}
 use Rattle.clap.specs.Walk.{Held, Rule, Text, Waiting, Walk, after_step, finished, nothing_held}
 use Rattle.clap.specs.Walk.{idle, option, plain_word, positional, settled, subcommand_met}
 use Rattle.clap.specs.Walk.{walk_from, walked, walked_from, word_met}
+use Rattle.ftd_replies.specs.LineRequests.{is_value}
 
 -- ---- words that are values
-
--- the word is no flag: it begins with another byte than a hyphen
-abbrev pub is_value : Text → Bool
-is_value [] = false
-is_value (first ∷ others) = not (first == 45)
 
 -- a word of a command: a value, or one that is read as it stands
 pub data Item : Type 0 where

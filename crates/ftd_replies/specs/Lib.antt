@@ -5,6 +5,7 @@ pub mod Differing
 pub mod Enrolment
 pub mod Hints
 pub mod LineLaws
+pub mod LineRequests
 pub mod Notes
 pub mod Putting
 pub mod Questions
