@@ -6,7 +6,8 @@ use Rattle.sqlite.specs.Store as store
 use Rattle.ftd_ports.specs.Ports.{has_failed}
 use Rattle.ftd_ports.specs.declared.port.Port.{Port}
 use Rattle.ftd_desk.specs.declared.desk.Desk.{Desk}
-use Rattle.ftd_program.specs.Shells.{AnswersScript, Ways, said_by, said_in}
+use Rattle.ftd_program.specs.Scripts.{AnswersScript}
+use Rattle.ftd_program.specs.Shells.{Ways, said_by, said_in}
 use Rattle.ftd_program.specs.declared.performing.JobEnd.{JobEnd}
 use Rattle.ftd_program.specs.declared.shell.Shell.{Shell}
 use Rattle.ftd_http.specs.declared.ask.Inquiry.{Inquiry}
@@ -31,8 +32,8 @@ server_ways db = record {
 }
 
 module _ {S : Type 0} (g : store.Ghosts S) where
-  -- the lines of a body were answered by the shell of this file, and what it wrote stands in memory;
-  -- it may have failed to read them to their end for want of memory
+  -- the lines of a body were answered by the shell of this file, and what it wrote stands in
+  -- memory; it may have failed to read them to their end for want of memory
   pub record AnswersBody (old new : Desk S) (db body : List ℕ)
       (end : JobEnd (Port (Vec ℕ)) (Port (Vec ℕ))) : Type 0 where
     pub out : Port (Vec ℕ)

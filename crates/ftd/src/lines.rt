@@ -26,6 +26,8 @@ pub(crate) struct Lines<'a, R> {
     pub(crate) name: &'a str,
     /// A prompt is written before each line is read.
     pub(crate) has_prompt: bool,
+    /// All of it is there, as in a file: no one waits for an answer before the next line is given.
+    pub(crate) is_whole: bool,
     /// The reader has failed.
     pub(crate) has_failed: bool,
 }
@@ -47,6 +49,10 @@ impl<R: BufRead> Script for Lines<'_, R> {
                 Err(unread(rt, error.into(), self.name))
             }
         }
+    }
+
+    fn is_ready(&self) -> bool {
+        self.is_whole
     }
 }
 
@@ -75,6 +81,10 @@ impl<R: BufRead> Script for ReadAhead<'_, R> {
             Some(piece) => Ok(piece),
             None => self.lines.next(),
         }
+    }
+
+    fn is_ready(&self) -> bool {
+        self.lines.is_ready()
     }
 }
 

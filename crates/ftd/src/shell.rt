@@ -161,6 +161,7 @@ fn over_standard_input(rt: &HostRuntime, task: &ShellTask) -> Result<u8, Program
         reader: rt.reader(),
         name: "standard input",
         has_prompt,
+        is_whole: false,
         has_failed: false,
     };
     let done = over_lines(rt, task, lines);
@@ -171,13 +172,15 @@ fn over_standard_input(rt: &HostRuntime, task: &ShellTask) -> Result<u8, Program
     done
 }
 
-/// Answers the lines of a file.
+/// Answers the lines of a file. One that is no regular file, as a pipe, is answered line by line.
 fn over_script(rt: &HostRuntime, task: &ShellTask, file: File) -> Result<u8, ProgramFault> {
+    let is_whole = file.metadata()?.is_file();
     let lines = Lines {
         rt,
         reader: BufReader::new(rt.alloc(), file)?,
         name: &task.script,
         has_prompt: false,
+        is_whole,
         has_failed: false,
     };
     over_lines(rt, task, lines)

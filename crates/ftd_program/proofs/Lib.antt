@@ -28,3 +28,8 @@ mod ReadBack
 mod Reread
 mod Imported
 mod Scripted
+mod Listing
+mod Telling
+mod Turning
+mod ReadLines
+mod UnderstoodLines

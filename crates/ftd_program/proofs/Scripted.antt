@@ -1,10 +1,10 @@
 -- What was read of a script, piece by piece.
-use Rattle.std.proofs.Common.{◌≡◌, ℕ, List, [], ◌∷◌, Option, Some, None, refl, subst}
+use Rattle.std.proofs.Common.{◌≡◌, ℕ, List, [], ◌∷◌, ◌++◌, Option, Some, None, refl, subst}
 use Rattle.std.specs.Prelude.{IfSome}
 use Rattle.ftd_cli.specs.Lines.{IsNext, NextOf, after_line}
 use Rattle.ftd_cli.specs.declared.lines.Piece.{Piece}
 use Rattle.ftd_cli.specs.declared.lines.Piece.TheVariants.{End, Line, TooLong}
-use Rattle.ftd_program.specs.Shells.{BeginsWith}
+use Rattle.ftd_program.specs.Scripts.{BeginsWith}
 
 -- where the bytes are known, they begin with what was read, and these are left
 abbrev pub Left : List Piece → Option (List ℕ) → Option (List ℕ) → Type 0
@@ -42,6 +42,18 @@ pub begins : (lines : List Piece) (bytes left : Option (List ℕ)) → Left line
     → IfSome bytes (λ all. (rest : List ℕ) × BeginsWith all lines rest)
 begins lines None left is = is
 begins lines (Some all) left is = (is.0, is.1)
+
+-- and with the earlier part of it
+begins_less : (all : List ℕ) (later lines : List Piece) (left : List ℕ)
+    → BeginsWith all (later ++ lines) left → (rest : List ℕ) × BeginsWith all lines rest
+begins_less all [] lines left is = (left, is)
+begins_less all (piece ∷ later) lines left is = begins_less all later lines is.0 is.1
+
+pub begins_before : (later lines : List Piece) (bytes left : Option (List ℕ))
+    → Left (later ++ lines) bytes left
+    → IfSome bytes (λ all. (rest : List ℕ) × BeginsWith all lines rest)
+begins_before later lines None left is = is
+begins_before later lines (Some all) left is = begins_less all later lines is.0 is.1
 
 -- and at the end there is no more
 pub ended : (lines : List Piece) (bytes left after : Option (List ℕ)) → Left lines bytes left

@@ -1,7 +1,7 @@
 -- What a shell answers: the lines of a script, each as its command.
-use Rattle.std.specs.Prelude.{◌≡◌, ◌==◌, ◌&&◌, ◌||◌, ◌+◌, ◌≤◌, ℕ, Bool, false, true, nat_lt}
-use Rattle.std.specs.Prelude.{List, [], ◌∷◌, ◌++◌, length, MatchResult, Option, None, Some, IfSome}
-use Rattle.std.specs.Prelude.{Result, codes, if◌then◌else◌, not}
+use Rattle.std.specs.Prelude.{◌≡◌, ◌==◌, ◌&&◌, ◌||◌, ℕ, Bool, false, true, nat_lt}
+use Rattle.std.specs.Prelude.{List, [], ◌∷◌, ◌++◌, MatchResult, Option, None, Some}
+use Rattle.std.specs.Prelude.{Err, Ok, Result, codes, if◌then◌else◌, not}
 use Rattle.std.specs.Fmt.{decimal}
 use Rattle.std.specs.Global.{Vec}
 use Rattle.std.specs.Io.KnownBytes.{Appends}
@@ -10,7 +10,7 @@ use Rattle.sqlite.specs.Store as store
 use Rattle.ftd_ports.specs.Ports.{has_failed, inner_of}
 use Rattle.ftd_ports.specs.declared.port.Port.{Port}
 use Rattle.ftd_desk.specs.declared.desk.Desk.{Desk}
-use Rattle.ftd_cli.specs.Lines.{IsNext, are_texts, asks_nothing, command_words, line_of}
+use Rattle.ftd_cli.specs.Lines.{are_texts, asks_nothing, command_words, line_of}
 use Rattle.ftd_cli.specs.Lines.{shown_words}
 use Rattle.ftd_cli.specs.Clocks.{DecidesOn}
 use Rattle.ftd_cli.specs.declared.lines.Piece.{Piece}
@@ -139,6 +139,12 @@ module _ {S O E : Type 0} (g : store.Ghosts S) (o_taken : O → Option (List ℕ
   DoesIfAny old new db (Some asked) = DoesJob old new db asked
   DoesIfAny old new db None = (new ≡ old) × TellsLine e_taken e_failed out err p 2 not_here
 
+  -- what was decided of words was done and told: the job that a shell does of it, or the fault
+  abbrev pub DoesAsked : Desk S → Desk S → List ℕ → Result (Option Job) CliFault → Type 0
+  DoesAsked old new db (Ok asked) = DoesIfAny old new db asked
+  DoesAsked old new db (Err fault) =
+      (new ≡ old) × Tells o_taken o_failed e_taken e_failed out p.out err p.err fault p.status
+
   -- what the words of a command ask was done and told, as by the command itself, on the day that
   -- the clock told
   pub record AnswersCommand (old new : Desk S) (ways : Ways) (words : List (List ℕ)) : Type 0
@@ -209,58 +215,3 @@ module _ {S O E : Type 0} (g : store.Ghosts S) (o_taken : O → Option (List ℕ
   AnswersNext before p old new ways number piece =
       (end : JobEnd O E) × AnswersPiece before.out before.err end old new ways number piece
       × (p ≡ record end { status = greater before.status end.status })
-
-  -- what was read of a script, the last first, was answered line by line, and nothing after the
-  -- line that is the last
-  abbrev pub AnswersLines
-      : Bool → JobEnd O E → JobEnd O E → Desk S → Desk S → Ways → List Piece → Type 0
-  AnswersLines has_stop start p old new ways [] = (new ≡ old) × (p ≡ start)
-  AnswersLines has_stop start p old new ways (piece ∷ earlier) =
-      (between : Desk S) × (before : JobEnd O E)
-      × AnswersLines has_stop start before old between ways earlier
-      × (is_last has_stop before.status ≡ false)
-      × AnswersNext before p between new ways (length earlier + 1) piece
-
--- the bytes begin with what was read, the last first, and these are left of them
-abbrev pub BeginsWith : List ℕ → List Piece → List ℕ → Type 0
-BeginsWith bytes [] left = left ≡ bytes
-BeginsWith bytes (piece ∷ earlier) left =
-    (before : List ℕ) × BeginsWith bytes earlier before × IsNext before (Some left) piece
-
--- a script could not be read further, after these answers: why is told
-abbrev pub EndsUnread : {O E : Type 0} → (E → Option (List ℕ)) → (E → Bool) → (end p : JobEnd O E)
-    → ℕ → List ℕ → Type 0
-EndsUnread e_taken e_failed end p status said =
-    TellsLine e_taken e_failed end.out end.err p (greater end.status status) said
-
--- the most lines that a script is read for
-abbrev pub most_lines : ℕ
-most_lines = 18_446_744_073_709_551_614
-
-module _ {O E : Type 0} (e_taken : E → Option (List ℕ)) (e_failed : E → Bool) where
-  -- why no more lines were answered after these: the script has no more; or the last of them was to
-  -- be the last; or the script's source has failed; or so many were answered
-  pub data HasEnded (bytes : Option (List ℕ)) (failed has_stop : Bool) (lines : List Piece)
-      (end p : JobEnd O E) : Type 0 where
-    whole : p ≡ end → IfSome bytes (λ all. BeginsWith all lines [])
-        → HasEnded bytes failed has_stop lines end p
-    last : p ≡ end → is_last has_stop end.status ≡ true
-        → HasEnded bytes failed has_stop lines end p
-    broken : (status : ℕ) (said : List ℕ) → failed ≡ true
-        → EndsUnread e_taken e_failed end p status said
-        → HasEnded bytes failed has_stop lines end p
-    full : p ≡ end → most_lines ≤ length lines → HasEnded bytes failed has_stop lines end p
-
-module _ {S O E : Type 0} (g : store.Ghosts S) (o_taken : O → Option (List ℕ)) (o_failed : O → Bool)
-    (e_taken : E → Option (List ℕ)) (e_failed : E → Bool)
-    (out : O) (err : E) (p : JobEnd O E) where
-  -- lines of a script were answered one after the other, as many as the script has, or up to the
-  -- last; where its bytes are known, they are those with which it begins
-  pub record AnswersScript (old new : Desk S) (ways : Ways) (bytes : Option (List ℕ))
-      (failed has_stop : Bool) : Type 0 where
-    pub lines : List Piece
-    pub end : JobEnd O E
-    pub answers : AnswersLines g o_taken o_failed e_taken e_failed has_stop
-        (record { status = 0; out = out; err = err }) end old new ways lines
-    pub begins : IfSome bytes (λ all. (left : List ℕ) × BeginsWith all lines left)
-    pub ends : HasEnded e_taken e_failed bytes failed has_stop lines end p

@@ -15,6 +15,7 @@ mod fault;
 mod importing;
 mod journal;
 pub mod laws;
+mod listed;
 mod lists;
 mod mending;
 mod noting;
@@ -33,7 +34,10 @@ mod settle;
 mod shell;
 mod summaries;
 mod summary;
+mod told;
 mod trial;
+mod turns;
+mod understood;
 
 pub use crate::added::{AccountAdded, added_by};
 pub use crate::changes::AccountChange;

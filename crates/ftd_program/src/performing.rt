@@ -404,7 +404,7 @@ fn put_below<E: Target>(db: &str, request: &Request, reply: &Reply, err: &mut E)
 }
 
 /// Prints the text of a reply, in a format where it is a list, and what is said below it.
-fn print_reply<O: Target, E: Target>(
+pub(crate) fn print_reply<O: Target, E: Target>(
     db: &str,
     format: Format,
     request: &Request,

@@ -18,7 +18,8 @@ ghost use Rattle.ftd_program.specs.Settling.{payments_left, rows_in, years_quest
 use crate::noting::answer_then_note;
 use crate::performing::{JobEnd, fail_output, print_answer, print_refusal};
 use crate::record_notes::same_name;
-use ftd_answers::{Format, ListFormat, day_bytes, left_of};
+use crate::understood::TEXT;
+use ftd_answers::{day_bytes, left_of};
 use ftd_cli::Settlement;
 use ftd_days::Day;
 use ftd_desk::Desk;
@@ -31,9 +32,6 @@ use ftd_rules::Payment;
 use ftd_verbs::last_asked;
 use sqlite::Alter;
 use std::alloc::{AllocError, Global};
-
-/// Answers are printed as text.
-const TEXT: Format = Format::List(ListFormat::Text);
 
 /// What stays the same while deposits are paid.
 #[derive(Clone, Copy)]

@@ -35,4 +35,8 @@ impl Script for BodyLines<'_> {
             }
         }
     }
+
+    fn is_ready(&self) -> bool {
+        true
+    }
 }
