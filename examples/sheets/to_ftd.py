@@ -377,6 +377,10 @@ class Columns:
                     self.fault(at, f"is {word} and {taken.get(at, 'left out')} at once: name it once")
                 taken[at] = word
                 self.of.setdefault(word, []).append(at)
+        other = self.other_header()
+        if other:
+            self.faults.add(self.number, -1, f"row {self.number}", f"no column is known by its name, and row {other} looks like the header: say --header-row {other} if it is")
+            return
         for at, name in enumerate(self.names):
             if name and at not in taken and at not in self.left_out:
                 self.know(at, name, {it for it, _ in self.options.column})
@@ -418,16 +422,14 @@ class Columns:
             return f"may be tax, and it is not clear which shares: say {ways}, or --ignore {name}"
         return f"may be tax: say --column FIELD={name} or --ignore {name}"
 
-    def header_hint(self):
-        """Which row looks like the header, where this one does not."""
-        if self.of:
-            return ""
+    def other_header(self):
+        """The number of a row that looks like the header, where this one has no name that is known or said; None where there is none."""
         known = {name for word in self.words for name in KNOWN.get(word, ())}
         said = {any_letters(name) for _, name in self.options.column}
-        for number, row in enumerate(self.grid.rows, 1):
-            if sum(plain_name(str(it)) in known or any_letters(str(it)) in said for it in row) > 1:
-                return f"; row {number} looks like the header: say --header-row {number} if it is"
-        return "; if the header is in another row, say --header-row N"
+        counts = [sum(plain_name(str(it)) in known or any_letters(str(it)) in said for it in row) for row in self.grid.rows]
+        if counts[self.number - 1] or self.of:
+            return None
+        return next((number for number, count in enumerate(counts, 1) if count > 1), None)
 
     def complete(self):
         """Looks for a column or a value for each field."""
@@ -444,7 +446,8 @@ class Columns:
                 at = self.of.get(there[0], [0])[0]
                 self.fault(at, f"is one share of {field}, and there is no {other}: say --column {other}=NAME; it is not computed")
             elif not there and field not in NUMBERED_BY:
-                what = f"there is no column for {field}: say --column {field}=NAME, or --value {field}=TEXT for all rows{self.header_hint()}"
+                doubt = "" if self.of else f"; is row {self.number} the header?"
+                what = f"there is no column for {field}: say --column {field}=NAME, or --value {field}=TEXT for all rows{doubt}"
                 self.faults.add(self.number, -1, f"row {self.number}", what)
             if kind != "amount" and len(self.of.get(field, ())) > 1:
                 self.fault(self.of[field][1], f"is a second column for {field}: name one")
@@ -703,7 +706,7 @@ class Reading:
                 record[field] = self.value(number, cells, width, field, kind)
         amounts = [it for it, kind in self.columns.fields.items() if kind == "amount"]
         if amounts and all(record[it] == "" for it in amounts):
-            at = min(at for it in self.amount_words(amounts) for at in self.columns.of.get(it, [0]))
+            at = min(at for it in self.amount_words(amounts) for at in self.columns.of.get(it, ()))
             self.fault(number, at, "no amount is in this row: write 0.00, or say --leave-out for rows to leave out")
         if self.options.command == "import-payments" and record["amount"] == 0:
             self.fault(number, self.columns.of.get("amount", [0])[0], "is a payment of nothing, which the desk refuses: delete the row, or --leave-out such rows")
