@@ -85,11 +85,12 @@ UNCLEAR = [
 ]
 
 
-def other_cell(place, value, form="General"):
-    """A change of a workbook: another value and format of a cell."""
+def other_cell(place, value, form=None):
+    """A change of a workbook: another value of a cell, in its own format or another one."""
 
     def change(book):
-        book.active[place].value, book.active[place].number_format = value, form
+        book.active[place].value = value
+        book.active[place].number_format = form or ("General" if type(value) is int else book.active[place].number_format)
 
     return change
 
@@ -102,7 +103,7 @@ def hidden_row(book):
 UNCLEAR_BOOKS = [
     (other_cell("C2", -5), [], ["(C2)", "below zero"]),
     (other_cell("C2", 1.005), [], ["(C2)", "ROUND"]),
-    (other_cell("C2", 0.1 + 0.2), [], ["(C2)", "ROUND"]),
+    (other_cell("C2", 310.00000000000006), [], ["(C2)", "ROUND"]),
     (other_cell("C2", True), [], ["(C2)", "neither a text"]),
     (other_cell("C2", 5, "[$€-407] #,##0.00"), [], ["(C2)", "not in dollars"]),
     (other_cell("C2", 0.5, "0%"), [], ["(C2)", "not in dollars"]),
