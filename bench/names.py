@@ -9,7 +9,8 @@
 - A name in back quotes occurs in the code (comments aside), in a script or in an example: each part of it, between `::` or dots. Of `Type::method` a
   file of code has both, with a function of that name; where its first part is a crate, or one comes next as above, it is that crate's code.
 - Behind a function and a colon, as in docs/PROVED.md, stand labels of clauses of its contract.
-- `ftd COMMAND` is the command of a verb of `ftd_verbs`, or one of the table of `ftd_cli`, and `--OPTION` is one of its words.
+- `ftd COMMAND` is the command of a verb of `ftd_verbs`, or one of the table of `ftd_cli`, and `--OPTION` is one of its words; alone it may be one of
+  `examples/sheets/to_ftd.py`.
 
 It prints FILE:LINE and what is wrong for each finding, and exits with 1 then; else it prints nothing. Blocks of code are left out."""
 
@@ -112,6 +113,8 @@ def wrong_command(text):
     """What is wrong with the command and the options of a text, or nothing."""
     known = set(re.findall(r'=> "([a-z-]+)"', read("crates/ftd_cli/src/table.rt")))
     known |= set(re.findall(r'command: "([a-z-]+)"', read("crates/ftd_verbs/src/rows.rt")))
+    if text.startswith("--"):
+        known |= set(re.findall(r'add\("--([a-z-]+)"', read("examples/sheets/to_ftd.py")))
     for command in re.findall(r"^ftd ([a-z][a-z-]*)", text):
         if command not in known:
             yield f"no command {command}: {text}"
