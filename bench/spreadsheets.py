@@ -76,6 +76,8 @@ UNCLEAR = [
     (SHARED + "ash,2024-01-05,999999999.99,999999999.99,0.01,3,3\n", [], ["(D2)", "more than 999999999.99"]),
     (SHARED + "ash,2024-01-05,1,2,2,3,1,234.00\n", [], ["(H2)", "not quoted", "--ignore @H"]),
     (SHARED + "ash,2024-01-05,1,2,2,3\n", [], ["(G2)", "cut off"]),
+    (SHARED.replace("\n", ",Notes\n") + "ash,2024-01-05,1,234.00,2,2,3,3,\n", ["--ignore", "notes"], ["row 2:", "9 cells, and the header 8", "not quoted"]),
+    (SHARED.replace("\n", ",Notes\n") + "ash,2024-01-05,1,2,2,3,3\nash,2024-01-19,1,234.00,2,2,3,3\n", ["--ignore", "notes"], ["row 2:", "7 cells, and the header 8"]),
     (SHARED + 'ash,2024-01-05,1,2,2,3,"3\n', [], ["line 2:", "quote"]),
     (SHARED.replace("FIT", "FIT;tax") + "ash,2024-01-05,1,2,2,3,3\n", ["--column", "fit=FIT;tax"], ["row 1:", "--separator"]),
     (SHARED.encode() + b"\xe4sh,2024-01-05,1,2,2,3,3\n", [], ["line 2:", "--encoding windows-1252"]),

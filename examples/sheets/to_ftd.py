@@ -351,7 +351,7 @@ class Columns:
         """The indexes of the columns of a name, or the one of a letter."""
         if re.fullmatch(r"@[A-Za-z]{1,3}", name):
             return [index(name[1:])]
-        return [at for at, it in enumerate(self.names) if any_letters(it) == any_letters(name)]
+        return [at for at, it in enumerate(self.names) if it and any_letters(it) == any_letters(name)]
 
     def one(self, name, option):
         """The one column of a name; None, and a fault, where there is none or more than one."""
@@ -651,7 +651,7 @@ class Reading:
         self.grid, self.columns, self.options, self.faults = grid, columns, options, faults
         self.accounts = {any_letters(text): name for text, name in options.account}
         self.values = dict(options.value)
-        self.records, self.forms, self.above = [], {}, {}
+        self.records, self.forms, self.above, self.widths = [], {}, {}, {}
         self.filled = [it for it in (columns.one(name, "--fill-down") for name in options.fill_down) if it is not None]
         self.tests = [(columns.one(name, "--leave-out"), self.pattern(text)) for name, text in options.leave_out]
 
@@ -698,6 +698,7 @@ class Reading:
             if not is_named and at not in self.columns.left_out and not any(at in it for it in self.columns.of.values()) and not is_empty(cell):
                 self.fault(number, at, f"{shown(cell)} is below no name: is a comma within an amount not quoted? else name the column, or say --ignore @{letter(at)}")
         width = len(self.grid.row(number))
+        self.widths.setdefault(width, []).append(number)
         record = {"": number}
         for field, kind in self.columns.fields.items():
             if kind == "amount":
@@ -771,6 +772,15 @@ class Reading:
             self.fault(number, self.columns.of.get(words[0], [0])[0], f"{field} is more than 999999999.99 with all its columns: is it the right column?")
         return total
 
+    def check_widths(self):
+        """All rows have as many cells as the header, or all as many as each other: one that has not may be shifted by a comma within an amount."""
+        header = max([len(self.columns.names), *(at + 1 for at in self.columns.left_out)])
+        for width, rows in self.widths.items():
+            for row in rows if width != header and (len(self.widths) > 1 or width > header) else ():
+                what = f"has {width} cells, and the header {header}: is a comma within an amount not quoted? else write as many in each row"
+                what += f", or say --ignore @{letter(header)} if all rows have one more" if width == header + 1 else ""
+                self.faults.add(row, -1, f"row {row}", what)
+
     def check_forms(self):
         """A column of dates has one form: where some are dates and some texts, a spreadsheet of another country may have swapped day and month."""
         for at, forms in self.forms.items():
@@ -834,6 +844,7 @@ def converted(options):
     reading = Reading(grid, columns, options, faults)
     faults.stop()
     reading.read()
+    reading.check_widths()
     reading.check_forms()
     if not reading.records and not faults.found:
         faults.add(columns.number, -1, f"row {columns.number}", "there is no row to import below the header: is it the right file, or does --leave-out name too much?")
