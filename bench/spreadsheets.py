@@ -49,6 +49,7 @@ UNCLEAR = [
     ("Register,2024\n" + OWN + "ash,1,2024-01-05,1,2,3\n", [], ["row 1:", "--header-row 2"]),
     (OWN + "ash,1,2024-01-05,1,2,3\n", ["--header-row", "7"], ["row 7:", "--header-row"]),
     ("employer,payday,fit,ss,medicare\nash,2024-01-05,1,2,3\n", [], ['column "ss" (D1)', "--column ss=", "ss-employee="]),
+    (OWN.replace("employer,", "") + "1,2024-01-05,1,2,3\n", ["--value", "employer=ash"], ['column "medicare" (E1)', "--column medicare="]),
     ("Employer,Payday,FIT,SS EE,Med EE,Med ER\nash,2024-01-05,1,2,3,3\n", [], ["(D1)", "no ss-employer"]),
     (OWN.replace("fit", "FICA"), [], ["(D1)", "may be tax", "--ignore"]),
     (SHARED.replace("\n", ",Net\n") + "ash,2024-01-05,1,2,2,3,3,9\n", [], ['column "Net" (H1)', "--ignore-others"]),

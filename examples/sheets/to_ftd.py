@@ -388,9 +388,8 @@ class Columns:
 
     def own_names(self):
         """Whether the header has each column of the sheet by its own name: then `ss` and `medicare` are both shares."""
-        given = {word for word, _ in self.options.value}
         there = {plain_name(it) for it in self.names}
-        return all(plain_name(it) in there for it in self.fields if it not in given)
+        return all(plain_name(it) in there for it in self.fields)
 
     def know(self, at, name, said):
         """Finds what a column is by the names that are known, or leaves it out, or says that it is unclear."""
@@ -410,7 +409,7 @@ class Columns:
 
     def may_be_tax(self, plain):
         """Whether a column that is not known may be one of the taxes that are deposited."""
-        return self.options.command == "import" and (not TAX_WORDS.isdisjoint(plain.split()) or "w h" in plain)
+        return self.options.command == "import" and (not TAX_WORDS.isdisjoint(plain.split()) or re.search(r"\bw h\b", plain) is not None)
 
     @staticmethod
     def tax_remedy(plain, name):
