@@ -69,6 +69,8 @@ UNCLEAR = [
     (SHARED + "Ash,2024-01-05,1,2,2,3,3\n", [], ["(A2)", '--account "Ash=ACCOUNT"']),
     (SHARED + "ash,2024-01-05,1,2,,3,3\n", [], ["(E2)", "one share"]),
     (SHARED + "ash,2024-01-05,,,,,\n", [], ["(C2)", "no amount", "--leave-out"]),
+    (SHARED.replace(",FIT", "") + "ash,2024-01-05,,,,\n", ["--value", "fit=0"], ["(C2)", "no amount"]),
+    (SHARED + "ash,2024-01-05,1,2,2,3,3\n,,1,2,2,3,3\n", ["--fill-down", "employer", "--fill-down", "payday", "--number-each"], ["row 3:", "amounts alone", "--leave-out"]),
     (SHARED + "ash,2024-01-05,1.005,2,2,3,3\n", [], ["(C2)", "--decimal comma", "round"]),
     (SHARED + "ash,2024-01-05,1.0005,2,2,3,3\n", [], ["(C2)", "more than two digits", "round"]),
     (SHARED.replace(",", ";") + "ash;2024-01-05;1,50;2;2;3;3\n", [], ["(C2)", "--decimal comma"]),

@@ -671,9 +671,20 @@ class Reading:
                 continue
             cells = [*cells, *[""] * (len(self.columns.names) - len(cells))]
             matched = [at for at, text in self.tests if at is not None and re.fullmatch(text, any_letters(str(self.cell(cells, at))), re.DOTALL)]
+            is_bare = bool(self.filled) and self.has_amounts_alone(cells)
             self.fill(cells, matched)
-            if not matched:
-                self.row(number, cells)
+            if matched:
+                continue
+            if is_bare:
+                self.faults.add(number, -1, f"row {number}", "has amounts alone: say --leave-out if it is a row of totals, or write what --fill-down has to fill")
+            self.row(number, cells)
+
+    def has_amounts_alone(self, cells):
+        """Whether a row says of nothing whose its amounts are, as a row of totals without a word does."""
+        others = [at for word, found in self.columns.of.items() if self.columns.fields.get(word, "amount") != "amount" for at in found]
+        texts = [it for it in cells if not is_empty(it) and not isinstance(it, Decimal)]
+        is_text = lambda it: cents_of_text(same_spaces(str(it)), self.options.decimal) is None
+        return all(is_empty(self.cell(cells, at)) for at in others) and not any(map(is_text, texts))
 
     @staticmethod
     def cell(cells, at):
@@ -705,8 +716,9 @@ class Reading:
             elif field in self.columns.of or field in self.values:
                 record[field] = self.value(number, cells, width, field, kind)
         amounts = [it for it, kind in self.columns.fields.items() if kind == "amount"]
-        if amounts and all(record[it] == "" for it in amounts):
-            at = min(at for it in self.amount_words(amounts) for at in self.columns.of.get(it, ()))
+        found = [at for it in self.amount_words(amounts) for at in self.columns.of.get(it, ())]
+        if found and all(record[it] == "" for it in amounts if any(word in self.columns.of for word in self.amount_words([it]))):
+            at = min(found)
             self.fault(number, at, "no amount is in this row: write 0.00, or say --leave-out for rows to leave out")
         if self.options.command == "import-payments" and record["amount"] == 0:
             self.fault(number, self.columns.of.get("amount", [0])[0], "is a payment of nothing, which the desk refuses: delete the row, or --leave-out such rows")
@@ -764,7 +776,8 @@ class Reading:
                 at = self.columns.of.get(word, [0])[0]
                 self.fault(number, at, "one share is there, and this one is not: write it, 0.00 if there is none")
                 return None
-        if all(it is None for it in parts.values()):
+        of_cells = [parts[it] for it in words if it in self.columns.of]
+        if of_cells and all(it is None for it in of_cells):
             return ""
         total = sum(it or 0 for it in parts.values())
         if total > MOST_CENTS:
