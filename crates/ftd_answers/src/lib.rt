@@ -27,6 +27,7 @@ mod values;
 pub use crate::agendas::form_bytes;
 pub use crate::due_lists::due_list;
 pub use crate::due_texts::{DueText, UnwrittenText};
+pub use crate::explanations::{day_kind_name, reason_name, turn_of};
 pub use crate::facts::write_facts;
 pub use crate::fields::{Value, write_object, write_plain};
 pub use crate::formats::{Format, ListFormat};

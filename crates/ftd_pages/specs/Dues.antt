@@ -1,4 +1,4 @@
--- What is due as a page: over all accounts, and in an account's due list.
+-- What is due: over all accounts, and in an account's due list.
 use Rattle.std.specs.Prelude.{ℕ, List, [], ◌∷◌, ◌++◌, codes}
 use Rattle.std.specs.List.{sum_by}
 use Rattle.ftd_days.specs.Text.{day_text, quarter_text}
@@ -11,9 +11,10 @@ use Rattle.ftd_machine.specs.declared.facts.OwedList.{OwedList}
 use Rattle.ftd_machine.specs.declared.lists.AgendaRow.{AgendaRow}
 use Rattle.ftd_answers.specs.Agendas.{left_cents}
 use Rattle.ftd_answers.specs.Dues.{agenda_fields, due_fields}
-use Rattle.ftd_pages.specs.Pages.{due_sums, foot_of, left_sum, list_of, page_of, titled}
+use Rattle.ftd_pages.specs.Pages.{due_sums, foot_of, left_sum, titled}
 use Rattle.ftd_pages.specs.Rows.{Shape}
-use Rattle.ftd_pages.specs.declared.frames.Frame.{Frame}
+use Rattle.ftd_pages.specs.Sections.{list_at}
+use Rattle.ftd_pages.specs.declared.frames.Place.{Place}
 use Rattle.ftd_pages.specs.declared.rows.Class.TheVariants.{Stands}
 
 -- the words of the fields of an obligation
@@ -47,21 +48,21 @@ agenda_title from to as_of =
     ∷ codes ", as of " ∷ day_text as_of ∷ [])
 
 -- the rows, with the sum of what is left of them
-abbrev pub agenda_list : List ℕ → List ℕ → List AgendaRow → List ℕ
-agenda_list title sentence rows =
-    list_of agenda_shape title sentence (foot_of (left_sum (sum_by left_cents rows))) rows
+abbrev pub agenda_list : Place → List ℕ → List ℕ → List AgendaRow → List ℕ
+agenda_list place title sentence rows =
+    list_at place agenda_shape title sentence (foot_of (left_sum (sum_by left_cents rows))) rows
 
 -- what is due until a day and not paid, as of a day
-abbrev pub owed_page : Frame → OwedList → List ℕ
-owed_page frame x =
+abbrev pub owed_at : Place → OwedList → List ℕ
+owed_at place x =
     let title = owed_title x.until x.as_of in
-    page_of frame title (agenda_list title (codes "Nothing is owed.") x.rows)
+    agenda_list place title (codes "Nothing is owed.") x.rows
 
 -- what is due between two days, as of a day
-abbrev pub agenda_page : Frame → Agenda → List ℕ
-agenda_page frame x =
+abbrev pub agenda_at : Place → Agenda → List ℕ
+agenda_at place x =
     let title = agenda_title x.from x.to x.as_of in
-    page_of frame title (agenda_list title (codes "Nothing is due.") x.rows)
+    agenda_list place title (codes "Nothing is due.") x.rows
 
 -- ---- the due list of an account's quarter
 
@@ -83,9 +84,8 @@ due_title account quarter as_of =
     ∷ codes ", as of " ∷ day_text as_of ∷ [])
 
 -- the rows, with the sums of their amounts and of what is left of them
-abbrev pub due_page : Frame → DueList → List ℕ
-due_page frame x =
+abbrev pub due_at : Place → DueList → List ℕ
+due_at place x =
     let title = due_title x.account x.quarter x.as_of in
     let foot = foot_of (due_sums (sum_by amount_of x.rows) (sum_by left_of x.rows)) in
-    page_of frame title
-    (list_of (due_shape x.account) title (codes "The quarter has no deposits.") foot x.rows)
+    list_at place (due_shape x.account) title (codes "The quarter has no deposits.") foot x.rows

@@ -1,4 +1,4 @@
--- What is kept as a page.
+-- What is kept.
 use Rattle.std.specs.Prelude.{ℕ, Bool, true, false, List, [], ◌∷◌, codes}
 use Rattle.std.specs.Fmt.{decimal}
 use Rattle.ftd_days.specs.Text.{quarter_text}
@@ -12,9 +12,10 @@ use Rattle.ftd_machine.specs.declared.kept.KeptRows.{KeptRows}
 use Rattle.ftd_machine.specs.declared.kept.KeptRows.TheVariants as rows
 use Rattle.ftd_answers.specs.KeptForms.{account_fields, holiday_fields, payment_fields, run_fields}
 use Rattle.ftd_answers.specs.KeptForms.{total_fields, year_fields}
-use Rattle.ftd_pages.specs.Pages.{list_of, page_of, titled}
+use Rattle.ftd_pages.specs.Pages.{titled}
 use Rattle.ftd_pages.specs.Rows.{Shape}
-use Rattle.ftd_pages.specs.declared.frames.Frame.{Frame}
+use Rattle.ftd_pages.specs.Sections.{list_at}
+use Rattle.ftd_pages.specs.declared.frames.Place.{Place}
 use Rattle.ftd_pages.specs.declared.rows.Class.{Class}
 use Rattle.ftd_pages.specs.declared.rows.Class.TheVariants.{Plain, Void}
 
@@ -70,46 +71,42 @@ payment_shape account = record {
   class = λ x. class_if x.voided;
 }
 
--- ---- the pages
+-- ---- the lists, each at its place
 
-unfoldable pub accounts_page : Frame → List KeptAccount → List ℕ
-accounts_page frame listed =
+unfoldable pub accounts_at : Place → List KeptAccount → List ℕ
+accounts_at place listed =
     let title = titled (codes "Accounts" ∷ []) in
-    page_of frame title (list_of account_shape title (codes "No account is enrolled.") [] listed)
+    list_at place account_shape title (codes "No account is enrolled.") [] listed
 
-unfoldable pub years_page : Frame → List ℕ → List KeptYear → List ℕ
-years_page frame account listed =
+unfoldable pub years_at : Place → List ℕ → List KeptYear → List ℕ
+years_at place account listed =
     let title = titled (codes "Open years of " ∷ account ∷ []) in
-    page_of frame title
-    (list_of (year_shape account) title (codes "No year is open.") [] listed)
+    list_at place (year_shape account) title (codes "No year is open.") [] listed
 
-unfoldable pub reported_page : Frame → List ℕ → List KeptTotal → List ℕ
-reported_page frame account listed =
+unfoldable pub reported_at : Place → List ℕ → List KeptTotal → List ℕ
+reported_at place account listed =
     let title = titled (codes "Reported totals of " ∷ account ∷ []) in
-    page_of frame title
-    (list_of (total_shape account) title (codes "No total was reported.") [] listed)
+    list_at place (total_shape account) title (codes "No total was reported.") [] listed
 
-unfoldable pub holidays_page : Frame → ℕ → List KeptHoliday → List ℕ
-holidays_page frame year listed =
+unfoldable pub holidays_at : Place → ℕ → List KeptHoliday → List ℕ
+holidays_at place year listed =
     let title = titled (codes "Holidays of " ∷ decimal year ∷ []) in
-    page_of frame title (list_of holiday_shape title (codes "No holiday was given.") [] listed)
+    list_at place holiday_shape title (codes "No holiday was given.") [] listed
 
-unfoldable pub runs_page : Frame → List ℕ → ℕ → List KeptRun → List ℕ
-runs_page frame account quarter listed =
+unfoldable pub runs_at : Place → List ℕ → ℕ → List KeptRun → List ℕ
+runs_at place account quarter listed =
     let title = titled (codes "Pay runs of " ∷ account ∷ codes ", " ∷ quarter_text quarter ∷ []) in
-    page_of frame title
-    (list_of (run_shape account) title (codes "The quarter has no pay runs.") [] listed)
+    list_at place (run_shape account) title (codes "The quarter has no pay runs.") [] listed
 
-unfoldable pub payments_page : Frame → List ℕ → ℕ → List KeptPayment → List ℕ
-payments_page frame account quarter listed =
+unfoldable pub payments_at : Place → List ℕ → ℕ → List KeptPayment → List ℕ
+payments_at place account quarter listed =
     let title = titled (codes "Payments of " ∷ account ∷ codes ", " ∷ quarter_text quarter ∷ []) in
-    page_of frame title
-    (list_of (payment_shape account) title (codes "The quarter has no payments.") [] listed)
+    list_at place (payment_shape account) title (codes "The quarter has no payments.") [] listed
 
-abbrev pub kept_page : Frame → KeptRows → List ℕ
-kept_page frame (rows.Accounts listed) = accounts_page frame listed
-kept_page frame (rows.Years account listed) = years_page frame account listed
-kept_page frame (rows.Reported account listed) = reported_page frame account listed
-kept_page frame (rows.Holidays year listed) = holidays_page frame year listed
-kept_page frame (rows.Runs account quarter listed) = runs_page frame account quarter listed
-kept_page frame (rows.Payments account quarter listed) = payments_page frame account quarter listed
+abbrev pub kept_at : Place → KeptRows → List ℕ
+kept_at place (rows.Accounts listed) = accounts_at place listed
+kept_at place (rows.Years account listed) = years_at place account listed
+kept_at place (rows.Reported account listed) = reported_at place account listed
+kept_at place (rows.Holidays year listed) = holidays_at place year listed
+kept_at place (rows.Runs account quarter listed) = runs_at place account quarter listed
+kept_at place (rows.Payments account quarter listed) = payments_at place account quarter listed

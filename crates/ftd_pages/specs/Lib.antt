@@ -5,4 +5,13 @@ pub mod Dues
 pub mod Days
 pub mod Kept
 pub mod Unapplied
+pub mod Statements
+pub mod Sections
+pub mod Schedules
+pub mod Explanations
+pub mod Facts
+pub mod Formats
+pub mod FormWords
+pub mod Controls
+pub mod Forms
 pub mod Private

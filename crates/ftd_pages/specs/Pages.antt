@@ -11,6 +11,7 @@ use Rattle.ftd_pages.specs.declared.frames.Style.{Style}
 use Rattle.ftd_pages.specs.declared.frames.Style.TheVariants as style
 use Rattle.ftd_pages.specs.declared.frames.Ways.{Ways}
 use Rattle.ftd_pages.specs.declared.frames.Ways.TheVariants as ways
+use Rattle.ftd_pages.specs.declared.style.TheConstants.{STYLE}
 
 -- ---- what stands around a list
 
@@ -18,12 +19,12 @@ use Rattle.ftd_pages.specs.declared.frames.Ways.TheVariants as ways
 abbrev pub titled : List (List ℕ) → List ℕ
 titled parts = flat_map escaped parts
 
--- the style: a sheet within the page, or a link to the server's
+-- the style: the sheet within the page, or a link to the server's
 unfoldable pub sheet_within : List ℕ → List ℕ
 sheet_within sheet = concat (codes "<style>\n" ∷ sheet ∷ codes "</style>\n" ∷ [])
 
 abbrev pub style_text : Style → List ℕ
-style_text (style.Within sheet) = sheet_within sheet.now
+style_text style.Within = sheet_within STYLE.now
 style_text style.Linked = codes "<link rel=\"stylesheet\" href=\"/style.css\">\n"
 
 -- the ways to what is owed as of today until a day, to what is due from today to that day, and to

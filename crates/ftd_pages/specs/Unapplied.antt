@@ -1,12 +1,13 @@
--- Money that counts for nothing as a page.
+-- Money that counts for nothing.
 use Rattle.std.specs.Prelude.{ℕ, List, [], ◌∷◌, codes}
 use Rattle.ftd_days.specs.Text.{day_text}
 use Rattle.ftd_machine.specs.declared.facts.UnappliedList.{UnappliedList}
 use Rattle.ftd_machine.specs.declared.lists.UnappliedRow.{UnappliedRow}
 use Rattle.ftd_answers.specs.Unapplied.{unapplied_fields}
-use Rattle.ftd_pages.specs.Pages.{list_of, page_of, titled}
+use Rattle.ftd_pages.specs.Pages.{titled}
 use Rattle.ftd_pages.specs.Rows.{Shape}
-use Rattle.ftd_pages.specs.declared.frames.Frame.{Frame}
+use Rattle.ftd_pages.specs.Sections.{list_at}
+use Rattle.ftd_pages.specs.declared.frames.Place.{Place}
 use Rattle.ftd_pages.specs.declared.rows.Class.TheVariants.{Plain}
 
 -- the fields of CSV and JSON, each with a word
@@ -18,8 +19,7 @@ unapplied_shape = record {
   class = λ x. Plain;
 }
 
-abbrev pub unapplied_page : Frame → UnappliedList → List ℕ
-unapplied_page frame x =
+abbrev pub unapplied_at : Place → UnappliedList → List ℕ
+unapplied_at place x =
     let title = titled (codes "Money that counts for nothing until " ∷ day_text x.until ∷ []) in
-    page_of frame title
-    (list_of unapplied_shape title (codes "All money counts for a deposit.") [] x.rows)
+    list_at place unapplied_shape title (codes "All money counts for a deposit.") [] x.rows

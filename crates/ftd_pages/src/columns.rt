@@ -87,6 +87,48 @@ pub const DAY: Column = Column {
     word: "Day",
 };
 
+/// A deposit schedule.
+pub const KIND: Column = Column {
+    name: "kind",
+    word: "Schedule",
+};
+
+/// Why an account has its deposit schedule.
+pub const REASON: Column = Column {
+    name: "reason",
+    word: "Reason",
+};
+
+/// The day on which an account turned to its deposit schedule.
+pub const TURN: Column = Column {
+    name: "turn",
+    word: "Turned on",
+};
+
+/// A payday of an obligation.
+pub const OF_PAYDAY: Column = Column {
+    name: "day",
+    word: "Payday",
+};
+
+/// The liability of a payday.
+pub const LIABILITY: Column = Column {
+    name: "amount",
+    word: "Liability",
+};
+
+/// The liability of an obligation's days up to one.
+pub const TOTAL: Column = Column {
+    name: "total",
+    word: "Total so far",
+};
+
+/// What a day is to the counting of business days.
+pub const KIND_OF_DAY: Column = Column {
+    name: "is",
+    word: "Kind of day",
+};
+
 /// The day from which an account is kept.
 pub const START: Column = Column {
     name: "start",

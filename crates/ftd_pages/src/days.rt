@@ -1,14 +1,15 @@
-//! The page of Schedule B.
+//! Schedule B.
 
 ghost use Rattle.ftd_ports.specs.Writing.{Writes};
 ghost use Rattle.ftd_rules.specs.Liability.{cents_of};
-ghost use Rattle.ftd_pages.specs.Days.{day_shape, days_page};
+ghost use Rattle.ftd_pages.specs.Days.{day_shape, days_at};
 
 use crate::columns::{ACCOUNT, AMOUNT, DAY};
 use crate::feet::Foot;
-use crate::frames::Frame;
-use crate::pages::{Page, write_page};
+use crate::frames::Place;
+use crate::pages::Page;
 use crate::rows::{Class, PageRow, Part, write_fields};
+use crate::sections::write_list_at;
 use ftd_answers::{RowAmount, Value, total};
 use ftd_days::Cents;
 use ftd_machine::LiabilityByDay;
@@ -45,16 +46,16 @@ impl PageRow for DaySum {
     }
 }
 
-/// Writes Schedule B of an account's quarter, as a page: the days that have liability, and their
-/// sum. It takes no memory but what the target takes. Where the target fails, a prefix of the page
-/// was written, and it fails nowhere else.
-pub fn write_days_page<W: Target>(
-    frame: &Frame<'_>,
+/// Writes Schedule B of an account's quarter at its place: the days that have liability, and their
+/// sum. It takes no memory but what the target takes. Where the target fails, a prefix of that was
+/// written, and it fails nowhere else.
+pub fn write_days<W: Target>(
+    place: &Place,
     list: &LiabilityByDay,
     target: &mut W,
 ) -> Result<(), WriteFault>
     ensures { Writes result (W.taken target.old) (W.taken target.new)
-        (W.failed target.new) (days_page frame.now list.now) }
+        (W.failed target.new) (days_at place.now list.now) }
 {
     let account = list.account.as_str();
     let sums = list.sums.as_slice();
@@ -69,5 +70,5 @@ pub fn write_days_page<W: Target>(
         account,
         foot: Foot::Days(total(&Liability, sums)),
     };
-    write_page(frame, &page, sums, target)
+    write_list_at(place, &page, sums, target)
 }

@@ -1,18 +1,19 @@
-//! Pages of what is due: over all accounts, and in an account's due list.
+//! What is due: over all accounts, and in an account's due list.
 
 ghost use Rattle.ftd_ports.specs.Writing.{Writes};
 ghost use Rattle.ftd_machine.specs.Agenda.{left_of};
 ghost use Rattle.ftd_rules.specs.Verdicts.{amount_of};
 ghost use Rattle.ftd_answers.specs.Agendas.{left_cents};
-ghost use Rattle.ftd_pages.specs.Dues.{agenda_page, agenda_shape, due_page, due_shape, owed_page};
+ghost use Rattle.ftd_pages.specs.Dues.{agenda_at, agenda_shape, due_at, due_shape, owed_at};
 
 use crate::columns::{
     ACCOUNT, AMOUNT, DUE, FIRST, FORM, LAST, LEFT, MAKEUP, PAID, PAY_BY, RULE, VERDICT,
 };
 use crate::feet::Foot;
-use crate::frames::Frame;
-use crate::pages::{Page, write_page};
+use crate::frames::Place;
+use crate::pages::Page;
 use crate::rows::{Class, PageRow, Part, write_fields};
+use crate::sections::write_list_at;
 use ftd_answers::{RowAmount, Value, left_of, total};
 use ftd_days::Cents;
 use ftd_machine::{Agenda, AgendaRow, DueList, OwedList};
@@ -104,16 +105,16 @@ impl PageRow for DueRow {
     }
 }
 
-/// Writes what is due until a day over all accounts and not paid as of a day, as a page. It takes
-/// no memory but what the target takes. Where the target fails, a prefix of the page was written,
+/// Writes what is due until a day over all accounts and not paid as of a day, at its place. It
+/// takes no memory but what the target takes. Where the target fails, a prefix of that was written,
 /// and it fails nowhere else.
-pub fn write_owed_page<W: Target>(
-    frame: &Frame<'_>,
+pub fn write_owed<W: Target>(
+    place: &Place,
     owed: &OwedList,
     target: &mut W,
 ) -> Result<(), WriteFault>
     ensures { Writes result (W.taken target.old) (W.taken target.new)
-        (W.failed target.new) (owed_page frame.now owed.now) }
+        (W.failed target.new) (owed_at place.now owed.now) }
 {
     let rows = owed.rows.as_slice();
     let page = Page {
@@ -127,19 +128,19 @@ pub fn write_owed_page<W: Target>(
         account: "",
         foot: Foot::Left(total(&AmountLeft, rows)),
     };
-    write_page(frame, &page, rows, target)
+    write_list_at(place, &page, rows, target)
 }
 
-/// Writes what is due between two days over all accounts, as of a day, as a page. It takes no
-/// memory but what the target takes. Where the target fails, a prefix of the page was written, and
-/// it fails nowhere else.
-pub fn write_agenda_page<W: Target>(
-    frame: &Frame<'_>,
+/// Writes what is due between two days over all accounts, as of a day, at its place. It takes no
+/// memory but what the target takes. Where the target fails, a prefix of that was written, and it
+/// fails nowhere else.
+pub fn write_agenda<W: Target>(
+    place: &Place,
     agenda: &Agenda,
     target: &mut W,
 ) -> Result<(), WriteFault>
     ensures { Writes result (W.taken target.old) (W.taken target.new)
-        (W.failed target.new) (agenda_page frame.now agenda.now) }
+        (W.failed target.new) (agenda_at place.now agenda.now) }
 {
     let rows = agenda.rows.as_slice();
     let page = Page {
@@ -155,19 +156,15 @@ pub fn write_agenda_page<W: Target>(
         account: "",
         foot: Foot::Left(total(&AmountLeft, rows)),
     };
-    write_page(frame, &page, rows, target)
+    write_list_at(place, &page, rows, target)
 }
 
-/// Writes the due list of an account's quarter as of a day, as a page. It takes no memory but what
-/// the target takes. Where the target fails, a prefix of the page was written, and it fails nowhere
-/// else.
-pub fn write_due_page<W: Target>(
-    frame: &Frame<'_>,
-    list: &DueList,
-    target: &mut W,
-) -> Result<(), WriteFault>
+/// Writes the due list of an account's quarter as of a day, at its place. It takes no memory but
+/// what the target takes. Where the target fails, a prefix of that was written, and it fails
+/// nowhere else.
+pub fn write_due<W: Target>(place: &Place, list: &DueList, target: &mut W) -> Result<(), WriteFault>
     ensures { Writes result (W.taken target.old) (W.taken target.new)
-        (W.failed target.new) (due_page frame.now list.now) }
+        (W.failed target.new) (due_at place.now list.now) }
 {
     let account = list.account.as_str();
     let rows = list.rows.as_slice();
@@ -184,5 +181,5 @@ pub fn write_due_page<W: Target>(
         account,
         foot: Foot::Due(total(&Amount, rows), total(&AmountLeft, rows)),
     };
-    write_page(frame, &page, rows, target)
+    write_list_at(place, &page, rows, target)
 }

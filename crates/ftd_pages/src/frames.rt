@@ -3,24 +3,25 @@
 ghost use Rattle.ftd_ports.specs.Writing.{Writes};
 ghost use Rattle.ftd_pages.specs.Pages.{sheet_within, style_text, ways_from, ways_text};
 
+use crate::style::STYLE;
 use ftd_answers::day_bytes;
 use ftd_days::Day;
 use ftd_ports::{Target, WriteFault, write_all, write_pieces};
 
 /// What stands around the list of a page.
 #[derive(Clone, Copy, Debug)]
-pub struct Frame<'a> {
+pub struct Frame {
     /// Where its style comes from.
-    pub style: Style<'a>,
+    pub style: Style,
     /// Which ways lead to other pages.
     pub ways: Ways,
 }
 
 /// Where the style of a page comes from.
 #[derive(Clone, Copy, Debug)]
-pub enum Style<'a> {
-    /// The page has this style sheet within, so that it needs nothing else.
-    Within(&'a str),
+pub enum Style {
+    /// The page has the style sheet within, so that it needs nothing else.
+    Within,
     /// The page links the style sheet of a server.
     Linked,
 }
@@ -40,6 +41,15 @@ pub enum Ways {
     },
 }
 
+/// Where what is told stands.
+#[derive(Clone, Copy, Debug)]
+pub enum Place {
+    /// On a page of its own.
+    Alone(Frame),
+    /// In a section of a page that tells several things.
+    Section,
+}
+
 /// Writes a style sheet within a page.
 fn write_sheet<W: Target>(sheet: &str, target: &mut W) -> Result<(), WriteFault>
     ensures { Writes result (W.taken target.old) (W.taken target.new)
@@ -49,12 +59,12 @@ fn write_sheet<W: Target>(sheet: &str, target: &mut W) -> Result<(), WriteFault>
 }
 
 /// Writes the style of a page.
-pub fn write_style<W: Target>(style: Style<'_>, target: &mut W) -> Result<(), WriteFault>
+pub fn write_style<W: Target>(style: Style, target: &mut W) -> Result<(), WriteFault>
     ensures { Writes result (W.taken target.old) (W.taken target.new)
-        (W.failed target.new) (style_text style.entry) }
+        (W.failed target.new) (style_text style) }
 {
     match style {
-        Style::Within(sheet) => write_sheet(sheet, target),
+        Style::Within => write_sheet(STYLE, target),
         Style::Linked => write_all(target, b"<link rel=\"stylesheet\" href=\"/style.css\">\n"),
     }
 }

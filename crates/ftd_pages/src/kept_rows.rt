@@ -1,4 +1,4 @@
-//! Pages of what is kept.
+//! The rows of what is kept.
 
 ghost use Rattle.std.specs.Prelude.{◌≡◌};
 ghost use Rattle.ftd_ports.specs.Writing.{Writes};

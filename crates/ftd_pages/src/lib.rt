@@ -1,23 +1,33 @@
-//! Lists as pages of HTML. A page shows the rows of a list with the fields that CSV and JSON have.
+//! What is told as pages of HTML. A page shows the rows of a list with the fields that CSV and JSON
+//! have, and a rule in words where it explains.
 #![tactic(auto)]
 
 mod columns;
+mod controls;
 mod days;
 mod dues;
 mod escapes;
+mod explanations;
+mod facts;
 mod feet;
+mod form_words;
+mod formats;
+mod forms;
 mod frames;
 mod kept;
 mod kept_rows;
 mod pages;
 mod rows;
+mod schedules;
+mod sections;
+mod statements;
 mod style;
 mod unapplied;
 
-pub use crate::days::write_days_page;
-pub use crate::dues::{write_agenda_page, write_due_page, write_owed_page};
+pub use crate::controls::Filled;
 pub use crate::escapes::write_escaped;
-pub use crate::frames::{Frame, Style, Ways};
-pub use crate::kept::write_kept_page;
+pub use crate::facts::{write_account_page, write_facts_page};
+pub use crate::formats::write_facts_as;
+pub use crate::forms::{has_form, write_form};
+pub use crate::frames::{Frame, Place, Style, Ways};
 pub use crate::style::STYLE;
-pub use crate::unapplied::write_unapplied_page;

@@ -2,8 +2,8 @@
 
 ghost use Rattle.std.specs.List.{flat_map};
 ghost use Rattle.ftd_ports.specs.Writing.{Writes};
-ghost use Rattle.ftd_pages.specs.Pages.{foot_text, list_of, none_of, page_of, page_start};
-ghost use Rattle.ftd_pages.specs.Pages.{table_of};
+ghost use Rattle.ftd_pages.specs.Pages.{foot_text, list_of, none_of, page_end, page_of};
+ghost use Rattle.ftd_pages.specs.Pages.{page_start, table_of};
 ghost use Rattle.ftd_pages.specs.Private.Cells.{shown};
 ghost use Rattle.ftd_pages.specs.Rows.{body_for, header_for};
 
@@ -14,7 +14,7 @@ use crate::rows::{BodyRows, PageRow, Part};
 use ftd_answers::{Value, write_rows};
 use ftd_ports::{Target, WriteFault, write_all};
 
-/// What a page tells besides its rows.
+/// What a page tells of a list besides its rows.
 #[derive(Clone, Copy, Debug)]
 pub struct Page<'a> {
     /// Its title, which is the caption of its list: words and values, one after the other.
@@ -28,16 +28,16 @@ pub struct Page<'a> {
 }
 
 /// Writes a title.
-fn write_title<W: Target>(title: &[Value<'_>], target: &mut W) -> Result<(), WriteFault>
+pub fn write_title<W: Target>(title: &[Value<'_>], target: &mut W) -> Result<(), WriteFault>
     ensures { Writes result (W.taken target.old) (W.taken target.new)
         (W.failed target.new) (flat_map shown title.now) }
 {
     write_rows(&Values, title, target)
 }
 
-/// Writes a page up to its list.
-fn write_start<W: Target>(
-    frame: &Frame<'_>,
+/// Writes a page up to what it tells.
+pub fn write_start<W: Target>(
+    frame: &Frame,
     title: &[Value<'_>],
     target: &mut W,
 ) -> Result<(), WriteFault>
@@ -58,7 +58,7 @@ fn write_start<W: Target>(
 }
 
 /// Writes a table of rows, with the heads of the columns as the first row names them.
-fn write_table<T: PageRow, W: Target>(
+pub fn write_table<T: PageRow, W: Target>(
     page: &Page<'_>,
     first: &T,
     rows: &[T],
@@ -84,15 +84,19 @@ fn write_table<T: PageRow, W: Target>(
     write_all(target, b"</table>\n")
 }
 
-/// Writes the sentence in place of a list that has no rows.
-fn write_none<W: Target>(page: &Page<'_>, target: &mut W) -> Result<(), WriteFault>
+/// Writes the sentence in place of what a page tells, where there is nothing to tell.
+pub fn write_none<W: Target>(
+    title: &[Value<'_>],
+    sentence: &str,
+    target: &mut W,
+) -> Result<(), WriteFault>
     ensures { Writes result (W.taken target.old) (W.taken target.new) (W.failed target.new)
-        (none_of (flat_map shown page.now.title.now) page.now.sentence.now) }
+        (none_of (flat_map shown title.now) sentence.now) }
 {
     write_all(target, b"<h1>")?;
-    write_title(page.title, target)?;
+    write_title(title, target)?;
     write_all(target, b"</h1>\n<p>")?;
-    write_escaped(page.sentence, target)?;
+    write_escaped(sentence, target)?;
     write_all(target, b"</p>\n")
 }
 
@@ -107,15 +111,23 @@ fn write_list<T: PageRow, W: Target>(
         page.now.sentence.now (foot_text page.now.foot) rows.now) }
 {
     match rows.split_first() {
-        None => write_none(page, target),
+        None => write_none(page.title, page.sentence, target),
         Some((first, _)) => write_table(page, first, rows, target),
     }
+}
+
+/// Writes a page from behind what it tells.
+pub fn write_end<W: Target>(target: &mut W) -> Result<(), WriteFault>
+    ensures { Writes result (W.taken target.old) (W.taken target.new)
+        (W.failed target.new) page_end }
+{
+    write_all(target, b"</main>\n</body>\n</html>\n")
 }
 
 /// Writes a list as a page. It takes no memory but what the target takes. Where the target fails, a
 /// prefix of the page was written, and it fails nowhere else.
 pub fn write_page<T: PageRow, W: Target>(
-    frame: &Frame<'_>,
+    frame: &Frame,
     page: &Page<'_>,
     rows: &[T],
     target: &mut W,
@@ -127,5 +139,5 @@ pub fn write_page<T: PageRow, W: Target>(
 {
     write_start(frame, page.title, target)?;
     write_list(page, rows, target)?;
-    write_all(target, b"</main>\n</body>\n</html>\n")
+    write_end(target)
 }

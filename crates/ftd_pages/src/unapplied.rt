@@ -1,15 +1,16 @@
-//! The page of money that counts for nothing.
+//! Money that counts for nothing.
 
 ghost use Rattle.std.specs.Prelude.{◌≡◌};
 ghost use Rattle.ftd_ports.specs.Writing.{Writes};
 ghost use Rattle.ftd_answers.specs.Unapplied.{over_of};
-ghost use Rattle.ftd_pages.specs.Unapplied.{unapplied_page, unapplied_shape};
+ghost use Rattle.ftd_pages.specs.Unapplied.{unapplied_at, unapplied_shape};
 
 use crate::columns::{ACCOUNT, AMOUNT, FIRST, LAST, OVER, PAID, PAYMENT};
 use crate::feet::Foot;
-use crate::frames::Frame;
-use crate::pages::{Page, write_page};
+use crate::frames::Place;
+use crate::pages::Page;
 use crate::rows::{Class, PageRow, Part, write_fields};
+use crate::sections::write_list_at;
 use ftd_answers::Value;
 use ftd_days::Cents;
 use ftd_machine::{UnappliedList, UnappliedRow};
@@ -45,16 +46,16 @@ impl PageRow for UnappliedRow {
     }
 }
 
-/// Writes money that counts for nothing, of the days up to one, as a page. It takes no memory but
-/// what the target takes. Where the target fails, a prefix of the page was written, and it fails
+/// Writes money that counts for nothing, of the days up to one, at its place. It takes no memory
+/// but what the target takes. Where the target fails, a prefix of that was written, and it fails
 /// nowhere else.
-pub fn write_unapplied_page<W: Target>(
-    frame: &Frame<'_>,
+pub fn write_unapplied<W: Target>(
+    place: &Place,
     unapplied: &UnappliedList,
     target: &mut W,
 ) -> Result<(), WriteFault>
     ensures { Writes result (W.taken target.old) (W.taken target.new)
-        (W.failed target.new) (unapplied_page frame.now unapplied.now) }
+        (W.failed target.new) (unapplied_at place.now unapplied.now) }
 {
     let rows = unapplied.rows.as_slice();
     let page = Page {
@@ -66,5 +67,5 @@ pub fn write_unapplied_page<W: Target>(
         account: "",
         foot: Foot::Nothing,
     };
-    write_page(frame, &page, rows, target)
+    write_list_at(place, &page, rows, target)
 }

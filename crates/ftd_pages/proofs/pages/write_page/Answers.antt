@@ -16,4 +16,4 @@ pub returns : goal.returns
 unfolding page_of
 returns g c =
     then_writes c.in_ok-write_start.ensures (then_writes c.in_ok-write_list.ensures
-    c.write_all.ensures)
+    c.write_end.ensures)

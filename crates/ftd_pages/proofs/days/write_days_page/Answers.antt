@@ -1,6 +1,0 @@
-use Rattle.ftd_pages.proofs.days.write_days_page.Goals as goal
-
-pub returns : goal.returns
-returns g c =
-    rw (c.total.ensures, c.as_slice-sums.ensures, c.as_str-account.ensures) at
-    c.write_page.ensures

@@ -1,4 +1,0 @@
-use Rattle.ftd_pages.proofs.dues.write_owed_page.Goals as goal
-
-pub returns : goal.returns
-returns g c = rw (c.total.ensures, c.as_slice-rows.ensures) at c.write_page.ensures

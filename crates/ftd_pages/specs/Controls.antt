@@ -1,0 +1,108 @@
+-- The controls of a form.
+use Rattle.std.specs.Prelude.{ℕ, Bool, true, false, List, [], ◌∷◌, ◌++◌, codes, if◌then◌else◌}
+use Rattle.std.specs.Prelude.{option_map, unwrap_or}
+use Rattle.std.specs.List.{concat, find}
+use Rattle.std.specs.Str.{bytes_eq}
+use Rattle.ftd_verbs.specs.FieldRows.{key_of, kind_of}
+use Rattle.ftd_verbs.specs.declared.field.Field.{Field}
+use Rattle.ftd_verbs.specs.declared.field.Kind.{Kind}
+use Rattle.ftd_verbs.specs.declared.field.Kind.TheVariants as kind
+use Rattle.ftd_pages.specs.Escapes.{escaped}
+use Rattle.ftd_pages.specs.declared.controls.Filled.{Filled}
+use Rattle.ftd_pages.specs.declared.controls.Options.{Options}
+use Rattle.ftd_pages.specs.declared.controls.Options.TheVariants.{Answers, Forms}
+
+-- what is filled in for a field: the first text that is given for a field of its name, or none
+abbrev pub filled_in : List Filled → Field → List ℕ
+filled_in filled field =
+    unwrap_or
+    (option_map (λ x. x.text.now) (find (λ x. bytes_eq (key_of x.field) (key_of field)) filled)) []
+
+-- whether a field of this kind must have a value: not where it may be left out, and not where it
+-- is a mark
+abbrev pub is_required : Kind → Bool
+is_required kind.NumberOrNext = false
+is_required kind.DayOrOther = false
+is_required kind.DayOrToday = false
+is_required kind.Days = false
+is_required kind.Mark = false
+is_required kind.Form = false
+is_required _ = true
+
+abbrev pub required_text : Bool → List ℕ
+required_text true = codes " required"
+required_text false = []
+
+-- what each control says of itself: its name, which is also its id; its help; and whether it must
+-- have a value
+unfoldable pub attributes : List ℕ → Bool → List ℕ
+attributes name needed =
+    concat (codes " id=\"" ∷ name ∷ codes "\" name=\"" ∷ name ∷ codes "\" aria-describedby=\""
+    ∷ name ∷ codes "-help\"" ∷ required_text needed ∷ [])
+
+abbrev pub attributes_of : Field → List ℕ
+attributes_of field = attributes (key_of field) (is_required (kind_of field))
+
+-- a control in which a line is typed, of this type
+unfoldable pub typed_start : List ℕ → List ℕ
+typed_start type = concat (codes "<input type=\"" ∷ type ∷ codes "\"" ∷ [])
+
+unfoldable pub typed : List ℕ → Field → List ℕ → List ℕ
+typed type field text =
+    typed_start type ++ (attributes_of field
+    ++ (codes " value=\"" ++ (escaped text ++ codes "\">\n")))
+
+-- a control in which lines are typed
+unfoldable pub lines : Field → List ℕ → List ℕ
+lines field text =
+    codes "<textarea rows=\"12\"" ++ (attributes_of field ++ (codes ">\n" ++ (escaped text
+    ++ codes "</textarea>\n")))
+
+-- a box that is checked or not: it is where its value is filled in
+abbrev pub if_same : List ℕ → List ℕ → List ℕ → List ℕ
+if_same value text word = if bytes_eq value text then word else []
+
+unfoldable pub box_end : List ℕ → List ℕ
+box_end text = concat (if_same (codes "yes") text (codes " checked") ∷ codes ">\n" ∷ [])
+
+unfoldable pub box : Field → List ℕ → List ℕ
+box field text =
+    codes "<input type=\"checkbox\" value=\"yes\"" ++ (attributes_of field ++ box_end text)
+
+-- a choice, and a control with one of several to choose: the one whose value is filled in
+unfoldable pub option : List ℕ → List ℕ → List ℕ → List ℕ
+option value word text =
+    concat (codes "<option value=\"" ∷ value ∷ codes "\"" ∷ if_same value text (codes " selected")
+    ∷ codes ">" ∷ word ∷ codes "</option>\n" ∷ [])
+
+abbrev pub options_text : Options → List ℕ → List ℕ
+options_text Answers text =
+    option [] (codes "Choose") text ++ (option (codes "yes") (codes "Yes") text
+    ++ option (codes "no") (codes "No") text)
+options_text Forms text =
+    option (codes "941") (codes "Form 941") text ++ option (codes "943") (codes "Form 943") text
+
+unfoldable pub choice : Field → Options → List ℕ → List ℕ
+choice field options text =
+    codes "<select" ++ (attributes_of field ++ (codes ">\n" ++ (options_text options text
+    ++ codes "</select>\n")))
+
+-- the control of a field, by the kind of its values, with what is filled in
+abbrev pub control_as : Kind → Field → List ℕ → List ℕ
+control_as kind.Account field text = typed (codes "text") field text
+control_as kind.Number field text = typed (codes "number") field text
+control_as kind.NewNumber field text = typed (codes "number") field text
+control_as kind.NumberOrNext field text = typed (codes "number") field text
+control_as kind.Year field text = typed (codes "number") field text
+control_as kind.Day field text = typed (codes "date") field text
+control_as kind.DayOrOther field text = typed (codes "date") field text
+control_as kind.DayOrToday field text = typed (codes "date") field text
+control_as kind.Days field text = lines field text
+control_as kind.Quarter field text = typed (codes "text") field text
+control_as kind.Amount field text = typed (codes "text") field text
+control_as kind.Mark field text = box field text
+control_as kind.Answer field text = choice field Answers text
+control_as kind.Form field text = choice field Forms text
+
+abbrev pub control_of : Field → List ℕ → List ℕ
+control_of field text = control_as (kind_of field) field text
