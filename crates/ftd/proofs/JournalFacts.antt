@@ -15,7 +15,7 @@ use Rattle.ftd_desk.specs.Desks.{KeepsIfOpen, held}
 use Rattle.ftd_desk.specs.Telling.{StandsAsBefore}
 use Rattle.ftd_desk.specs.declared.desk.Desk.{Desk}
 use Rattle.ftd_program.specs.Journals.{StoodFor}
-use Rattle.ftd_program.specs.Performing.{as_text}
+use Rattle.ftd_verbs.specs.Formats.{as_text}
 use Rattle.ftd_replies.specs.RequestLines.{lines_of}
 use Rattle.ftd_server.specs.Refusals.{refused}
 use Rattle.ftd_server.specs.Replying.{Responds}

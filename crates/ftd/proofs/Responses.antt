@@ -62,6 +62,7 @@ by_desk g old new db asked.BadForm body said other none responds = responds
 by_desk g old new db asked.Commands body said other none responds = absurd (other refl)
 by_desk g old new db (asked.Journal account) body said other none responds =
     absurd (none account refl)
+by_desk g old new db asked.StyleSheet body said other none responds = responds
 by_desk g old new db (asked.Asks format request) body said other none responds = responds
 
 -- a response of the desk that was lost is one of the shell

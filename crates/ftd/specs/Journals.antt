@@ -13,7 +13,7 @@ use Rattle.ftd_desk.specs.Telling.{StandsAsBefore}
 use Rattle.ftd_desk.specs.declared.desk.Desk.{Desk}
 use Rattle.ftd_replies.specs.RequestLines.{lines_of}
 use Rattle.ftd_program.specs.Journals.{StoodFor, own_asked}
-use Rattle.ftd_program.specs.Performing.{as_text}
+use Rattle.ftd_verbs.specs.Formats.{as_text}
 use Rattle.ftd_http.specs.declared.ask.Inquiry.{Inquiry}
 use Rattle.ftd_http.specs.declared.ask.Inquiry.TheVariants as asked
 use Rattle.ftd_server.specs.Refusals.{refused}

@@ -17,7 +17,6 @@ ghost use Rattle.ftd_server.specs.Tables.{handles};
 ghost use Rattle.ftd.specs.Journals.{TellsJournal, TellsOwn, TellsWhole, told_or_refused};
 ghost use Rattle.ftd.specs.Journals.{years_asked};
 
-use ftd_answers::{Format, ListFormat};
 use ftd_desk::Desk;
 use ftd_http::Inquiry;
 use ftd_machine::{AccountName, KeptList, Question, Refusal, Request};
@@ -25,11 +24,9 @@ use ftd_ports::Port;
 use ftd_program::{JournalFault, write_journal};
 use ftd_replies::write_requests;
 use ftd_server::{Response, desk_response, refusal_response, report_response};
+use ftd_verbs::TEXT;
 use sqlite::Alter;
 use std::alloc::{AllocError, Global};
-
-/// The format of the lines of a journal.
-const LINES: Format = Format::List(ListFormat::Text);
 
 /// The lines of the desk's journal, all of them in memory. `Memory` and `Store` may come in place
 /// of them. The desk stands as before.
@@ -66,7 +63,7 @@ fn lines_response(alloc: Global, lines: Result<Vec<u8>, Refusal>) -> Result<Resp
     ensures { IfOk result (λ response. said_of response ≡ told_or_refused lines) }
 {
     match lines {
-        Ok(lines) => Ok(report_response(LINES, lines)),
+        Ok(lines) => Ok(report_response(TEXT, lines)),
         Err(refusal) => refusal_response(alloc, &refusal),
     }
 }
@@ -87,7 +84,7 @@ fn years_asked(alloc: Global, account: &str) -> Result<Inquiry, AllocError>
 {
     let account = AccountName::copy_of(alloc, account)?;
     Ok(Inquiry::Asks {
-        format: LINES,
+        format: TEXT,
         request: Request::Question(Question::Kept(KeptList::Years { account })),
     })
 }

@@ -7,7 +7,6 @@ use Rattle.clap.specs.Words.{Row, Text, first_of}
 use Rattle.ftd_days.specs.declared.limits.TheConstants.{FIRST_YEAR, LAST_OPEN_YEAR}
 use Rattle.ftd_csv.specs.declared.sheets.Sheet.{Sheet}
 use Rattle.ftd_machine.specs.declared.requests.Request.{Request}
-use Rattle.ftd_answers.specs.declared.formats.Format.{Format}
 use Rattle.ftd_rules.specs.Accounts.{is_account_name}
 use Rattle.ftd_verbs.specs.Rows.{is_correction, row_of}
 use Rattle.ftd_verbs.specs.FieldRows.{kind_of}
@@ -15,6 +14,7 @@ use Rattle.ftd_verbs.specs.declared.field.Field.{Field}
 use Rattle.ftd_verbs.specs.declared.field.Field.TheVariants as field
 use Rattle.ftd_verbs.specs.declared.field.Kind.{Kind}
 use Rattle.ftd_verbs.specs.declared.field.Kind.TheVariants as kind
+use Rattle.ftd_verbs.specs.declared.formats.AnswerFormat.{AnswerFormat}
 use Rattle.ftd_verbs.specs.declared.rows.Verb.{Verb}
 use Rattle.ftd_cli.specs.declared.fault.WordFault.{WordFault}
 use Rattle.ftd_cli.specs.declared.fault.WordFault.TheVariants as fault
@@ -60,7 +60,7 @@ pub data Wanted : Type 0 where
   settle : (db : Text) (wait : ℕ) (account : Text) (due paid : ℕ) → Wanted
   journal : (db : Text) (wait : ℕ) (account : Option Text) → Wanted
   check : (db : Text) (wait : ℕ) → Wanted
-  ask : (db : Text) (wait : ℕ) (format : Format) (request : Request) → Wanted
+  ask : (db : Text) (wait : ℕ) (format : AnswerFormat) (request : Request) → Wanted
   ask_next : (db : Text) (wait : ℕ) (request : Request) → Wanted
 
 -- `plain` wants an account name, and a year of 2001 to 2098
@@ -145,7 +145,7 @@ check_of rows =
 
 -- a request to the desk in the database: one that takes the next number under that, any other in
 -- the format that is asked for
-abbrev pub asked_as : List Row → Format → Request → Result Wanted WordFault
+abbrev pub asked_as : List Row → AnswerFormat → Request → Result Wanted WordFault
 asked_as rows format request =
     then_with (text_in word.Db rows) (λ db.
     then_with (whole_in word.Wait rows) (λ wait.

@@ -6,10 +6,8 @@ use Rattle.std.specs.List.{find}
 use Rattle.std.specs.Option.{is_none, option_map_or, unwrap_or}
 use Rattle.clap.specs.Words.{Row, Text, all_of, first_of}
 use Rattle.ftd_days.specs.Spelling.{day_of, days_of, whole_number}
-use Rattle.ftd_answers.specs.declared.formats.Format.{Format}
-use Rattle.ftd_answers.specs.declared.formats.Format.TheVariants as format
-use Rattle.ftd_answers.specs.declared.formats.ListFormat.TheVariants.{Text as Lines}
-use Rattle.ftd_verbs.specs.Formats.{named}
+use Rattle.ftd_verbs.specs.Formats.{as_text, named}
+use Rattle.ftd_verbs.specs.declared.formats.AnswerFormat.{AnswerFormat}
 use Rattle.ftd_verbs.specs.declared.formats.Formats.{Formats}
 use Rattle.ftd_verbs.specs.declared.formats.Formats.TheVariants as formats
 use Rattle.ftd_cli.specs.declared.fault.WordFault.{WordFault}
@@ -73,12 +71,12 @@ bad_value word rows =
     else first_of (word_text word) rows) []
 
 -- the one of these formats that is asked for
-abbrev pub chosen_format : Formats → List Row → Result Format WordFault
+abbrev pub chosen_format : Formats → List Row → Result AnswerFormat WordFault
 chosen_format formats rows = spelled_in (named formats) (word.Format formats) rows
 
 -- the format of an answer that is asked for: text, where it is told in one way
-abbrev pub format_in : Formats → List Row → Result Format WordFault
-format_in formats.Fixed rows = Ok (format.List Lines)
+abbrev pub format_in : Formats → List Row → Result AnswerFormat WordFault
+format_in formats.Fixed rows = Ok as_text
 format_in formats.Explanation rows = chosen_format formats.Explanation rows
 format_in formats.List rows = chosen_format formats.List rows
 format_in formats.Calendar rows = chosen_format formats.Calendar rows

@@ -241,8 +241,8 @@ fn field_help<'a>(field: Field) -> &'a str {
 fn formats_help<'a>(formats: Formats) -> &'a str {
     match formats {
         Formats::Fixed => "The format of the answer: text",
-        Formats::Explanation => "The format of the answer: text or json",
-        Formats::List => "The format of the list: text, csv or json",
-        Formats::Calendar => "The format of the list: text, csv, json or ics",
+        Formats::Explanation => "The format of the answer: text, json or html",
+        Formats::List => "The format of the list: text, csv, json or html",
+        Formats::Calendar => "The format of the list: text, csv, json, html or ics",
     }
 }

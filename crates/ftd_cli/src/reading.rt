@@ -12,11 +12,10 @@ ghost use Rattle.ftd_cli.specs.Asking.{TellsAs};
 use crate::Word;
 use crate::fault::WordFault;
 use clap::ArgMatches;
-use ftd_answers::{Format, ListFormat};
 use ftd_days::Day;
 use ftd_days::digits::whole_number;
 use ftd_machine::Days;
-use ftd_verbs::Formats;
+use ftd_verbs::{AnswerFormat, Formats, TEXT};
 use std::alloc::{AllocError, Global};
 
 /// The value of a word.
@@ -79,7 +78,7 @@ pub fn owned_text(alloc: Global, inner: &ArgMatches<'_>, word: Word) -> Result<S
 }
 
 /// The one of these formats that is asked for.
-fn chosen_format(inner: &ArgMatches<'_>, formats: Formats) -> Result<Format, WordFault>
+fn chosen_format(inner: &ArgMatches<'_>, formats: Formats) -> Result<AnswerFormat, WordFault>
     ensures { result ≡ chosen_format formats (rows_of (found_of inner.now)) }
 {
     let word = Word::Format(formats);
@@ -90,11 +89,11 @@ fn chosen_format(inner: &ArgMatches<'_>, formats: Formats) -> Result<Format, Wor
 }
 
 /// The format of an answer that is asked for: text, where it is told in one way.
-pub fn format_at(inner: &ArgMatches<'_>, formats: Formats) -> Result<Format, WordFault>
+pub fn format_at(inner: &ArgMatches<'_>, formats: Formats) -> Result<AnswerFormat, WordFault>
     ensures { result ≡ format_in formats (rows_of (found_of inner.now)) }
 {
     match formats {
-        Formats::Fixed => Ok(Format::List(ListFormat::Text)),
+        Formats::Fixed => Ok(TEXT),
         Formats::Explanation | Formats::List | Formats::Calendar => chosen_format(inner, formats),
     }
 }

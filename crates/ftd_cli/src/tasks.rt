@@ -4,10 +4,10 @@ ghost use Rattle.ftd_days.specs.declared.limits.TheConstants.{FIRST_YEAR, LAST_O
 ghost use Rattle.std.specs.Prelude.{◌≤◌};
 
 use crate::Word;
-use ftd_answers::Format;
 use ftd_csv::Sheet;
 use ftd_days::Day;
 use ftd_machine::{AccountName, Days, Request};
+use ftd_verbs::AnswerFormat;
 
 /// The deposits of an account in a year, from pay runs on standard input.
 #[derive(Drop)]
@@ -46,7 +46,7 @@ pub enum Job {
     },
     /// A request. A reply that has several formats, as a list has, is told in this one.
     Ask {
-        format: Format,
+        format: AnswerFormat,
         request: Request,
     },
     /// A pay run, a payment or a correction under the next number. The request is under the

@@ -1,11 +1,12 @@
 -- What a message asks.
-use Rattle.std.specs.Prelude.{◌==◌, ◌&&◌, not, length, List, ℕ, Option, Some, None, codes}
-use Rattle.std.specs.Prelude.{option_and_then, if◌then◌else◌}
+use Rattle.std.specs.Prelude.{◌==◌, ◌&&◌, not, length, List, ℕ, Bool, true, false, Option, Some}
+use Rattle.std.specs.Prelude.{None, codes, option_and_then, if◌then◌else◌}
 use Rattle.std.specs.Path.{rsplit_once}
 use Rattle.std.specs.Str.{is_utf8, bytes_eq}
 use Rattle.ftd_machine.specs.declared.requests.Request.{Request}
-use Rattle.ftd_answers.specs.declared.formats.Format.{Format}
 use Rattle.ftd_verbs.specs.Rows.{row_of}
+use Rattle.ftd_verbs.specs.declared.formats.AnswerFormat.{AnswerFormat}
+use Rattle.ftd_verbs.specs.declared.formats.AnswerFormat.TheVariants.{Plain, Page}
 use Rattle.ftd_verbs.specs.declared.rows.Method.{Method}
 use Rattle.ftd_verbs.specs.declared.rows.Method.TheVariants.{Get, Post, Put, Delete}
 use Rattle.ftd_http.specs.Routes.{route_of}
@@ -22,7 +23,7 @@ method_text Put = codes "PUT"
 method_text Delete = codes "DELETE"
 
 -- what a message of the right method asks
-abbrev pub formed : Format → Option Request → Inquiry
+abbrev pub formed : AnswerFormat → Option Request → Inquiry
 formed format None = asked.BadForm
 formed format (Some request) = asked.Asks format request
 
@@ -59,6 +60,14 @@ abbrev pub journal_asked : List ℕ → Option (List ℕ) → Inquiry
 journal_asked method account =
     if bytes_eq method (method_text Get) then asked.Journal account else asked.OtherMethod Get
 
+-- the target of the style sheet of the pages, and what a message of this method asks there
+abbrev pub style_path : List ℕ
+style_path = codes "/style.css"
+
+abbrev pub style_asked : List ℕ → Inquiry
+style_asked method =
+    if bytes_eq method (method_text Get) then asked.StyleSheet else asked.OtherMethod Get
+
 -- the name of the account whose journal a target asks for: what is behind its last slash, if that
 -- is not empty and the target of the desk's journal is before it
 abbrev pub named_by : List ℕ × List ℕ → Option (List ℕ)
@@ -79,4 +88,15 @@ unfoldable pub asked_of : List ℕ → List ℕ → List ℕ → Inquiry
 asked_of method target body =
     if bytes_eq target commands_path then commands_asked method
     else if bytes_eq target journal_path then journal_asked method None
+    else if bytes_eq target style_path then style_asked method
     else named_asked method target body (journal_name target)
+
+-- it asks for what a browser shows: a page, or the style sheet of the pages
+abbrev pub is_page : AnswerFormat → Bool
+is_page (Plain format) = false
+is_page Page = true
+
+abbrev pub is_for_browser : Inquiry → Bool
+is_for_browser (asked.Asks format request) = is_page format
+is_for_browser asked.StyleSheet = true
+is_for_browser other = false

@@ -9,12 +9,10 @@ use Rattle.matchit.specs.Route.{Scan, parse_route}
 use Rattle.matchit.specs.Order.{placed}
 use Rattle.matchit.specs.Seek.{first}
 use Rattle.matchit.specs.declared.error.InsertError.{InsertError}
-use Rattle.ftd_answers.specs.declared.formats.Format.{Format}
-use Rattle.ftd_answers.specs.declared.formats.Format.TheVariants as format
-use Rattle.ftd_answers.specs.declared.formats.ListFormat.TheVariants.{Json, Text as Lines}
 use Rattle.ftd_verbs.specs.FieldRows.{key_of}
-use Rattle.ftd_verbs.specs.Formats.{named}
+use Rattle.ftd_verbs.specs.Formats.{as_json, as_text, named}
 use Rattle.ftd_verbs.specs.Rows.{PathPart, all_verbs, of, row_of, text}
+use Rattle.ftd_verbs.specs.declared.formats.AnswerFormat.{AnswerFormat}
 use Rattle.ftd_verbs.specs.declared.formats.Formats.{Formats}
 use Rattle.ftd_verbs.specs.declared.formats.Formats.TheVariants as formats
 use Rattle.ftd_verbs.specs.declared.rows.Verb.{Verb}
@@ -58,21 +56,21 @@ abbrev pub verb_at : RowsOf (RouteOf Verb) → List ℕ → Option Verb
 verb_at rows path = option_map (λ r. r.value) (first rows path)
 
 -- what is told in one way is told as JSON, and what may be told in several, as text
-abbrev pub first_format : Formats → Format
-first_format formats.Fixed = format.List Json
-first_format formats.Explanation = format.List Lines
-first_format formats.List = format.List Lines
-first_format formats.Calendar = format.List Lines
+abbrev pub first_format : Formats → AnswerFormat
+first_format formats.Fixed = as_json
+first_format formats.Explanation = as_text
+first_format formats.List = as_text
+first_format formats.Calendar = as_text
 
-abbrev pub format_of : Verb → Format
+abbrev pub format_of : Verb → AnswerFormat
 format_of verb = first_format (row_of verb).formats
 
 -- the format behind a verb's path: one of the verb's, but for text, which stands behind no path
-abbrev pub behind : Verb → List ℕ → Option Format
+abbrev pub behind : Verb → List ℕ → Option AnswerFormat
 behind verb last =
     if bytes_eq last (codes "text") then None else named (row_of verb).formats last
 
-abbrev pub with_format : Verb → Option Format → Option Route
+abbrev pub with_format : Verb → Option AnswerFormat → Option Route
 with_format verb asked = option_map (λ told. record { verb = verb; format = told }) asked
 
 -- a target that is a path and a last part, which is a format of the path's verb

@@ -4,15 +4,14 @@ ghost use Rattle.std.specs.Prelude.{◌≡◌, IfOk, option_map};
 ghost use Rattle.std.specs.Str.{bytes_eq};
 ghost use Rattle.ftd_http.specs.Routes.{all_routes};
 ghost use Rattle.ftd_http.specs.Asking.{asked_of, commands_asked, commands_path, formed};
-ghost use Rattle.ftd_http.specs.Asking.{journal_asked, journal_name, journal_path, method_text};
-ghost use Rattle.ftd_http.specs.Asking.{named_by, verb_asked};
+ghost use Rattle.ftd_http.specs.Asking.{is_for_browser, journal_asked, journal_name, journal_path};
+ghost use Rattle.ftd_http.specs.Asking.{method_text, named_by, style_asked, style_path, verb_asked};
 
 use crate::message_fields::make_request;
 use crate::route::{last_cut, look_up};
 use crate::values::name;
-use ftd_answers::Format;
 use ftd_machine::{AccountName, Request};
-use ftd_verbs::{Method, Verb};
+use ftd_verbs::{AnswerFormat, Method, Verb};
 use matchit::Router;
 use std::alloc::{AllocError, Global};
 
@@ -29,8 +28,29 @@ pub enum Inquiry {
     Commands,
     /// The journal of the account is to be told, or that of the desk where none is named.
     Journal(Option<AccountName>),
+    /// The style sheet of the pages is to be told.
+    StyleSheet,
     /// A request to the desk. A reply that has several formats is told in this one.
-    Asks { format: Format, request: Request },
+    Asks {
+        format: AnswerFormat,
+        request: Request,
+    },
+}
+
+impl Inquiry {
+    /// Whether it asks for what a browser shows: a page, or the style sheet of the pages.
+    pub fn is_for_browser(&self) -> bool
+        ensures { result ≡ is_for_browser self.now }
+    {
+        matches!(
+            self,
+            Inquiry::StyleSheet
+                | Inquiry::Asks {
+                    format: AnswerFormat::Page,
+                    ..
+                }
+        )
+    }
 }
 
 /// The text of a method.
@@ -63,6 +83,9 @@ pub fn what_is_asked(
     }
     if is_of_journal(target) {
         return Ok(journal_asked(method, None));
+    }
+    if is_of_style(target) {
+        return Ok(style_asked(method));
     }
     match journal_name(target) {
         Some(account) => Ok(journal_asked(method, Some(name(alloc, account)?))),
@@ -131,6 +154,24 @@ fn journal_asked(method: &[u8], account: Option<AccountName>) -> Inquiry
     }
 }
 
+/// Whether the target is that of the style sheet.
+fn is_of_style(target: &[u8]) -> bool
+    ensures { result ≡ bytes_eq target.now style_path }
+{
+    target == b"/style.css".as_slice()
+}
+
+/// What a message of this method asks whose target is that of the style sheet.
+fn style_asked(method: &[u8]) -> Inquiry
+    ensures { result ≡ style_asked method.now }
+{
+    if is_method(method, Method::Get) {
+        Inquiry::StyleSheet
+    } else {
+        Inquiry::OtherMethod(Method::Get)
+    }
+}
+
 /// What a message asks whose target is another.
 fn verb_asked(
     alloc: Global,
@@ -164,7 +205,7 @@ fn is_method(text: &[u8], method: Method) -> bool
 }
 
 /// What a message of the right method asks.
-fn formed(format: Format, request: Option<Request>) -> Inquiry
+fn formed(format: AnswerFormat, request: Option<Request>) -> Inquiry
     ensures { result ≡ formed format request }
 {
     match request {

@@ -8,8 +8,7 @@ ghost use Rattle.ftd_verbs.specs.Rows.{part_seen};
 ghost use Rattle.ftd_http.specs.Routes.{all_routes, behind, format_of, formatted, part_text};
 ghost use Rattle.ftd_http.specs.Routes.{path_text, route_in, route_text, with_route, with_verbs};
 
-use ftd_answers::{Format, ListFormat};
-use ftd_verbs::{Formats, Part, VERBS, Verb};
+use ftd_verbs::{AnswerFormat, Formats, JSON, Part, TEXT, VERBS, Verb};
 use matchit::{InsertError, Router};
 use std::alloc::{AllocError, Global};
 
@@ -19,7 +18,7 @@ pub struct Route {
     /// The verb of its path.
     pub verb: Verb,
     /// The format in which a reply that has several is told.
-    pub format: Format,
+    pub format: AnswerFormat,
 }
 
 /// Adds a part of a path, as a route is written.
@@ -106,17 +105,17 @@ fn verb_at(router: &Router<Verb>, path: &str) -> Option<Verb>
 }
 
 /// The format in which a verb is told that is asked for in none.
-fn format_of(verb: Verb) -> Format
+fn format_of(verb: Verb) -> AnswerFormat
     ensures { result ≡ format_of verb }
 {
     match verb.row().formats {
-        Formats::Fixed => Format::List(ListFormat::Json),
-        Formats::Explanation | Formats::List | Formats::Calendar => Format::List(ListFormat::Text),
+        Formats::Fixed => JSON,
+        Formats::Explanation | Formats::List | Formats::Calendar => TEXT,
     }
 }
 
 /// The format that stands behind the path of a verb, if it is one of the verb's. Text never does.
-fn behind(verb: Verb, text: &str) -> Option<Format>
+fn behind(verb: Verb, text: &str) -> Option<AnswerFormat>
     ensures { result ≡ behind verb text.now }
 {
     if text == "text" {

@@ -15,9 +15,7 @@ use Rattle.ftd_cli.specs.declared.tasks.Job.{Job}
 use Rattle.ftd_cli.specs.declared.tasks.Job.TheVariants as job
 use Rattle.ftd_cli.specs.declared.tasks.Task.{Task}
 use Rattle.ftd_cli.specs.declared.tasks.Task.TheVariants as task
-use Rattle.ftd_answers.specs.declared.formats.Format.{Format}
-use Rattle.ftd_answers.specs.declared.formats.Format.TheVariants as format
-use Rattle.ftd_answers.specs.declared.formats.ListFormat.TheVariants.{Text as Lines}
+use Rattle.ftd_verbs.specs.Formats.{as_text}
 use Rattle.ftd_machine.specs.declared.requests.Request.{Request}
 use Rattle.ftd_replies.specs.LineRequests.{AlwaysAsk}
 use Rattle.ftd_replies.specs.Telling.{Tells}
@@ -35,10 +33,6 @@ use Rattle.ftd_program.specs.declared.understood.Understood.TheVariants as under
 use Rattle.ftd_program.specs.declared.understood.Words.{Words}
 
 -- ---- what words ask
-
--- the format of an answer that is told in one way
-abbrev text : Format
-text = format.List Lines
 
 pub understood_words : (ways : Ways) (words : List (List ℕ)) (said : Words) (given : Understood)
     → UnderstoodAs said given → string_bytes said.shown ≡ shown_words words
@@ -59,17 +53,17 @@ understood_words ways words said understood.TooLong is shows asks = absurd is
 -- words that ask a request whatever day it is, and whatever the file, ask it in a shell
 always_asks : (ways : Ways) (db : String Global) (words : List (List ℕ)) (asked : Request)
     → string_bytes db ≡ ways.db → AlwaysAsk words asked
-    → AsksJob ways words (Ok (Some (job.Ask text asked)))
+    → AsksJob ways words (Ok (Some (job.Ask as_text asked)))
 always_asks ways db words asked is asks = record {
-  decided = Ok (task.Local (record { db = db; wait = 0; job = job.Ask text asked }));
+  decided = Ok (task.Local (record { db = db; wait = 0; job = job.Ask as_text asked }));
   today = None;
-  decides = inr (asks None ways.db ∙ ap (λ file. Ok (ask file 0 text asked)) (sym is));
+  decides = inr (asks None ways.db ∙ ap (λ file. Ok (ask file 0 as_text asked)) (sym is));
   asked_is = for_all ways.does_imports;
 }
   where
     for_all : (b : Bool)
-        → Ok (Some (job.Ask text asked))
-        ≡ job_asked b (Ok (task.Local (record { db = db; wait = 0; job = job.Ask text asked })))
+        → Ok (Some (job.Ask as_text asked))
+        ≡ job_asked b (Ok (task.Local (record { db = db; wait = 0; job = job.Ask as_text asked })))
     for_all true = refl
     for_all false = refl
 
@@ -77,10 +71,10 @@ always_asks ways db words asked is asks = record {
 pub always_understood : (ways : Ways) (db shown : String Global) (words : List (List ℕ)) (asked : Request)
     (given : Understood) → string_bytes db ≡ ways.db → string_bytes shown ≡ shown_words words
     → AlwaysAsk words asked
-    → UnderstoodAs (record { shown = shown; asked = Ok (Some (job.Ask text asked)) }) given
+    → UnderstoodAs (record { shown = shown; asked = Ok (Some (job.Ask as_text asked)) }) given
     → UnderstandsWords ways words given
 always_understood ways db shown words asked given is shows asks understood =
-    understood_words ways words (record { shown = shown; asked = Ok (Some (job.Ask text asked)) })
+    understood_words ways words (record { shown = shown; asked = Ok (Some (job.Ask as_text asked)) })
     given understood shows (always_asks ways db words asked is asks)
 
 -- ---- a line that may be listed

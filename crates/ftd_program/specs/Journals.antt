@@ -20,7 +20,8 @@ use Rattle.ftd_ports.specs.Writing.{WritesPrefix}
 use Rattle.ftd_replies.specs.Putting.{IsPut}
 use Rattle.ftd_replies.specs.RequestLines.{lines_of}
 use Rattle.ftd_replies.specs.declared.hints.HintFacts.TheVariants.{Nothing}
-use Rattle.ftd_program.specs.Performing.{Performs, PrintsOut, PrintsRefusal, as_text}
+use Rattle.ftd_verbs.specs.Formats.{as_text}
+use Rattle.ftd_program.specs.Performing.{Performs, PrintsOut, PrintsRefusal}
 use Rattle.ftd_program.specs.declared.journal.JournalFault.{JournalFault}
 use Rattle.ftd_program.specs.declared.journal.JournalFault.TheVariants as fault
 use Rattle.ftd_program.specs.declared.performing.JobEnd.{JobEnd}

@@ -6,7 +6,7 @@ use Rattle.std.specs.List.{AllZip}
 use Rattle.std.specs.Io.KnownBytes.{Appends}
 use Rattle.ftd_ports.specs.Ports.{has_failed}
 use Rattle.ftd_ports.specs.declared.port.Port.{Port}
-use Rattle.ftd_answers.specs.declared.formats.Format.{Format}
+use Rattle.ftd_verbs.specs.declared.formats.AnswerFormat.{AnswerFormat}
 use Rattle.ftd_machine.specs.Checks.{Answer}
 use Rattle.ftd_machine.specs.Questions.{question_of}
 use Rattle.ftd_machine.specs.declared.replies.Refusal.TheVariants.{Store}
@@ -29,7 +29,7 @@ use Rattle.ftd_program.specs.declared.performing.JobEnd.{JobEnd}
 -- what a line asks of the desk: its words, the format in which a reply is told, and its request
 pub record Asked : Type 0 where
   pub words : List (List ℕ)
-  pub format : Format
+  pub format : AnswerFormat
   pub request : Request
 
 -- the words of the line ask this, on a day that the clock told, and it is no question

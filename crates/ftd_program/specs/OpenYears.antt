@@ -35,7 +35,8 @@ use Rattle.ftd_replies.specs.declared.hints.HintFacts.{HintFacts}
 use Rattle.ftd_replies.specs.declared.hints.HintFacts.TheVariants.{Nothing}
 use Rattle.ftd_program.specs.Mending.{KnowsAfter, or_nothing}
 use Rattle.ftd_program.specs.Outcomes.{is_already, is_posted, is_refused}
-use Rattle.ftd_program.specs.Performing.{FailsOutput, PrintsOut, PrintsRefusal, as_text}
+use Rattle.ftd_verbs.specs.Formats.{as_text}
+use Rattle.ftd_program.specs.Performing.{FailsOutput, PrintsOut, PrintsRefusal}
 use Rattle.ftd_program.specs.declared.open_years.OpenCounts.{OpenCounts}
 use Rattle.ftd_program.specs.declared.performing.JobEnd.{JobEnd}
 

@@ -1,5 +1,5 @@
 -- What the program prints of an answer, and its exit status.
-use Rattle.std.specs.Prelude.{◌≡◌, ◌==◌, ◌⊎◌, ℕ, Bool, true, List, Option, Result}
+use Rattle.std.specs.Prelude.{◌≡◌, ◌==◌, ◌⊎◌, ℕ, Bool, true, false, List, Option, Result}
 use Rattle.std.specs.Prelude.{Some, None, MatchBool, MatchResult, Ok, Err, [], codes}
 use Rattle.std.specs.Io.KnownBytes.{Appends}
 use Rattle.ftd_ports.specs.Writing.{WritesPrefix}
@@ -34,6 +34,9 @@ use Rattle.ftd_program.specs.declared.summary.StopCause.{StopCause}
 use Rattle.ftd_program.specs.declared.summary.ImportStop.{ImportStop}
 use Rattle.ftd_program.specs.declared.summary.Summary.{Summary}
 use Rattle.ftd_verbs.specs.Asked.{greatest_number}
+use Rattle.ftd_verbs.specs.Formats.{as_text}
+use Rattle.ftd_verbs.specs.declared.formats.AnswerFormat.{AnswerFormat}
+use Rattle.ftd_verbs.specs.declared.formats.AnswerFormat.TheVariants.{Plain, Page}
 use Rattle.ftd_csv.specs.Hints.{record_hints}
 use Rattle.ftd_replies.specs.Below.{below_text}
 use Rattle.ftd_replies.specs.Hints.{told_text}
@@ -42,8 +45,6 @@ use Rattle.ftd_replies.specs.Putting.{IsPut}
 use Rattle.ftd_replies.specs.Refusals.{refusal_status}
 use Rattle.ftd_replies.specs.Replies.{reply_text}
 use Rattle.ftd_answers.specs.Formats.{list_format}
-use Rattle.ftd_answers.specs.declared.formats.Format.{Format}
-use Rattle.ftd_answers.specs.declared.formats.Format.TheVariants as formats
 use Rattle.ftd_answers.specs.declared.formats.ListFormat.{ListFormat}
 use Rattle.ftd_answers.specs.declared.formats.ListFormat.TheVariants.{Text, Csv, Json}
 use Rattle.ftd_replies.specs.declared.hints.HintFacts.{HintFacts}
@@ -54,6 +55,16 @@ use Rattle.ftd_program.specs.Numbering.{FindsNumber, next_of, number_text}
 use Rattle.ftd_program.specs.RecordNotes.{PutsRefusals}
 use Rattle.ftd_program.specs.Summaries.{stop_status, stop_text, summary_status, summary_text}
 use Rattle.ftd_program.specs.declared.performing.JobEnd.{JobEnd}
+
+-- a list is told as text in this format
+abbrev pub is_list_text : ListFormat → Bool
+is_list_text Text = true
+is_list_text Csv = false
+is_list_text Json = false
+
+abbrev pub is_text : AnswerFormat → Bool
+is_text (Plain format) = is_list_text (list_format format)
+is_text Page = false
 
 module _ {O E : Type 0} (o_taken : O → Option (List ℕ)) (o_failed : O → Bool)
     (e_taken : E → Option (List ℕ)) (e_failed : E → Bool)
@@ -127,20 +138,20 @@ module _ {O E : Type 0} (o_taken : O → Option (List ℕ)) (o_failed : O → Bo
       ⊎ FailsOutput (summary_text stopped.done)
 
   -- the text of the reply in a format, and what is said below it, or the lines of the refusal
-  abbrev pub Prints : List ℕ → Format → Request → HintFacts → Answer → Type 0
+  abbrev pub Prints : List ℕ → AnswerFormat → Request → HintFacts → Answer → Type 0
   Prints db format request known (Ok reply) =
       PrintsReply (reply_text format reply) (below_text db request reply)
   Prints db format request known (Err refusal) = PrintsRefusal db request known refusal
 
   -- the request was asked of the desk, which answered this, and its answer printed
-  pub record PerformsBy (old new : Held) (db : List ℕ) (format : Format) (request : Request)
+  pub record PerformsBy (old new : Held) (db : List ℕ) (format : AnswerFormat) (request : Request)
       (answer : Answer) : Type 0 where
     pub handles : Handles old new request answer
     pub known : Result HintFacts Refusal
     pub knows : KnowsAfter old new request answer known
     pub prints : Prints db format request (or_nothing known) answer
 
-  abbrev pub Performs : Held → Held → List ℕ → Format → Request → Type 0
+  abbrev pub Performs : Held → Held → List ℕ → AnswerFormat → Request → Type 0
   Performs old new db format request =
       (answer : Answer) × PerformsBy old new db format request answer
 
@@ -230,8 +241,8 @@ module _ {S O E : Type 0} (g : store.Ghosts S) (o_taken : O → Option (List ℕ
     (out : O) (err : E) (p : JobEnd O E) where
   -- the request was asked of the desk, and its answer printed; then the desk was asked what is said
   -- below it
-  pub record AnswersThenNotes (old new : Desk S) (db : List ℕ) (format : Format) (request : Request)
-      : Type 0 where
+  pub record AnswersThenNotes (old new : Desk S) (db : List ℕ) (format : AnswerFormat)
+      (request : Request) : Type 0 where
     pub answer : Answer
     pub between : Desk S
     pub first : JobEnd O E
@@ -240,36 +251,29 @@ module _ {S O E : Type 0} (g : store.Ghosts S) (o_taken : O → Option (List ℕ
     pub notes : NotesAfter g e_taken e_failed first p between new db (asked_then request answer)
 
   -- a due list is printed row by row as text, and in the other formats when it is there
-  abbrev pub AsksDue : Desk S → Desk S → List ℕ → ListFormat → Format → Request → List ℕ → ℕ → ℕ
+  abbrev pub AsksDue : Desk S → Desk S → List ℕ → Bool → AnswerFormat → Request → List ℕ → ℕ → ℕ
       → Type 0
-  AsksDue old new db Text format request account quarter as_of =
+  AsksDue old new db true format request account quarter as_of =
       PerformsDue o_taken o_failed e_taken e_failed out err p (held g old) (held g new) db account
       quarter as_of
-  AsksDue old new db Csv format request account quarter as_of =
-      Performs o_taken o_failed e_taken e_failed out err p (held g old) (held g new) db format
-      request
-  AsksDue old new db Json format request account quarter as_of =
+  AsksDue old new db false format request account quarter as_of =
       Performs o_taken o_failed e_taken e_failed out err p (held g old) (held g new) db format
       request
 
   -- every other reply is printed when it is there
-  abbrev pub AsksBy : Desk S → Desk S → List ℕ → Format → Request → Option Questions → Type 0
+  abbrev pub AsksBy : Desk S → Desk S → List ℕ → AnswerFormat → Request → Option Questions → Type 0
   AsksBy old new db format request (Some (DueList account quarter as_of)) =
-      AsksDue old new db (list_format format) format request account quarter as_of
+      AsksDue old new db (is_text format) format request account quarter as_of
   AsksBy old new db format request other = AnswersThenNotes old new db format request
 
-  abbrev pub Asks : Desk S → Desk S → List ℕ → Format → Request → Type 0
+  abbrev pub Asks : Desk S → Desk S → List ℕ → AnswerFormat → Request → Type 0
   Asks old new db format request = AsksBy old new db format request (question_of request)
-
--- a reply that has several formats is told as text
-abbrev pub as_text : Format
-as_text = formats.List Text
 
 module _ {S O E : Type 0} (g : store.Ghosts S) (o_taken : O → Option (List ℕ)) (o_failed : O → Bool)
     (e_taken : E → Option (List ℕ)) (e_failed : E → Bool)
     (out : O) (err : E) (p : JobEnd O E) where
   -- where the desk answered the request so, this was performed
-  abbrev pub PrintsAnswer : Desk S → Desk S → List ℕ → Format → Request → Answer → Type 0
+  abbrev pub PrintsAnswer : Desk S → Desk S → List ℕ → AnswerFormat → Request → Answer → Type 0
   PrintsAnswer old new db format request answer =
       (before : Desk S) → Handles (held g before) (held g old) request answer
       → PerformsBy o_taken o_failed e_taken e_failed out err p (held g before) (held g new) db

@@ -30,7 +30,8 @@ use Rattle.ftd_replies.specs.Replies.{reply_text}
 use Rattle.ftd_replies.specs.RequestLines.{request_line}
 use Rattle.ftd_replies.specs.declared.hints.HintFacts.TheVariants.{Nothing}
 use Rattle.ftd_program.specs.Numbering.{FindsNumber}
-use Rattle.ftd_program.specs.Performing.{AsksAfter, PerformsBy, PrintsOut, PrintsRefusal, as_text}
+use Rattle.ftd_verbs.specs.Formats.{as_text}
+use Rattle.ftd_program.specs.Performing.{AsksAfter, PerformsBy, PrintsOut, PrintsRefusal}
 use Rattle.ftd_program.specs.declared.performing.JobEnd.{JobEnd}
 
 -- ---- what is asked, and what is left

@@ -13,11 +13,11 @@ ghost use Rattle.ftd_program.specs.Performing.{PrintsOut};
 
 use crate::open_accounts::all_accounts;
 use crate::performing::{JobEnd, answer, fail_output, print_refusal};
-use ftd_answers::{Format, ListFormat};
 use ftd_desk::Desk;
 use ftd_machine::{AccountName, KeptAccount, KeptList, Question, Refusal, Request};
 use ftd_ports::Target;
 use ftd_replies::{HintFacts, write_requests};
+use ftd_verbs::TEXT;
 use sqlite::Alter;
 
 /// Why a journal is not written whole.
@@ -169,7 +169,7 @@ fn own_journal<S: Alter, O: Target, E: Target>(
     let request = Request::Question(Question::Kept(KeptList::Years { account }));
     match found {
         Ok(Some(requests)) => print_lines(&requests, out, err),
-        Ok(None) => answer(desk, db, Format::List(ListFormat::Text), &request, out, err),
+        Ok(None) => answer(desk, db, TEXT, &request, out, err),
         Err(refusal) => print_refusal(db, &request, &refusal, &HintFacts::Nothing, out, err),
     }
 }

@@ -6,9 +6,9 @@ ghost use Rattle.ftd_program.specs.Listed.{in_list};
 ghost use Rattle.ftd_program.specs.Understanding.{Adds, StaysListed, Takes};
 
 use crate::understood::{Entry, Understood};
-use ftd_answers::Format;
 use ftd_cli::Piece;
 use ftd_machine::{AccountName, Question, Request};
+use ftd_verbs::AnswerFormat;
 use std::alloc::{AllocError, Global};
 
 /// How many lines are listed at most.
@@ -26,7 +26,7 @@ pub(crate) struct ListedLine {
     /// Its words, as they are shown.
     pub shown: String,
     /// The format in which a reply is told.
-    pub format: Format,
+    pub format: AnswerFormat,
     /// Whether the desk is asked something after its request.
     pub has_note: bool,
 }

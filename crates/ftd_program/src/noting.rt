@@ -5,11 +5,11 @@ ghost use Rattle.ftd_program.specs.Performing.{AnswersThenNotes, Notes, NotesAft
 ghost use Rattle.ftd_program.specs.Performing.{asked_then};
 
 use crate::performing::{JobEnd, print_answer};
-use ftd_answers::Format;
 use ftd_desk::Desk;
 use ftd_machine::{Answer, Reply, Request};
 use ftd_ports::Target;
 use ftd_replies::{asked_after, write_note};
+use ftd_verbs::AnswerFormat;
 use sqlite::Alter;
 
 /// What the desk is asked after its answer to the request.
@@ -80,7 +80,7 @@ fn note_if_printed<S: Alter, O, E: Target>(
 pub(crate) fn answer_then_note<S: Alter, O: Target, E: Target>(
     desk: &mut Desk<S>,
     db: &str,
-    format: Format,
+    format: AnswerFormat,
     request: Request,
     out: O,
     err: E,

@@ -8,11 +8,11 @@ ghost use Rattle.ftd_program.specs.Performing.{AsksCounted, AsksNext, AsksUnder}
 
 use crate::noting::answer_then_note;
 use crate::performing::{JobEnd, fail_output, print_answer, print_refusal};
-use ftd_answers::{Format, ListFormat};
 use ftd_desk::Desk;
 use ftd_machine::{Answer, MOST_NUMBER, Refusal, Request};
 use ftd_ports::{Target, WriteFault, write_pieces};
 use ftd_replies::HintFacts;
+use ftd_verbs::TEXT;
 use itoa::Buffer;
 use sqlite::Alter;
 
@@ -93,10 +93,7 @@ fn ask_counted<S: Alter, O: Target, E: Target>(
     let answer = desk.handle(&first);
     match next_of(&answer) {
         Some(number) => ask_under(desk, db, first.with_number(number), number, out, err),
-        None => {
-            let format = Format::List(ListFormat::Text);
-            print_answer(desk, db, format, &first, &answer, out, err)
-        }
+        None => print_answer(desk, db, TEXT, &first, &answer, out, err),
     }
 }
 
@@ -115,10 +112,7 @@ fn ask_under<S: Alter, O: Target, E: Target>(
 {
     let mut out = out;
     match write_number(number, &mut out) {
-        Ok(()) => {
-            let format = Format::List(ListFormat::Text);
-            answer_then_note(desk, db, format, request, out, err)
-        }
+        Ok(()) => answer_then_note(desk, db, TEXT, request, out, err),
         Err(_) => fail_output(out, err),
     }
 }

@@ -15,12 +15,12 @@ ghost use Rattle.ftd_program.specs.Performing.{PrintsOut};
 use crate::mending::{known_for, or_nothing};
 use crate::open_accounts::year_requests;
 use crate::performing::{JobEnd, fail_output, print_refusal};
-use ftd_answers::{Format, ListFormat};
 use ftd_days::{FIRST_YEAR, LAST_OPEN_YEAR};
 use ftd_desk::Desk;
 use ftd_machine::{AccountName, Answer, Entry, Refusal, Reply, Request};
 use ftd_ports::{Target, WriteFault, write_all, write_pieces};
 use ftd_replies::{HintFacts, account_in, write_hints, write_refusal, write_reply};
+use ftd_verbs::TEXT;
 use itoa::Buffer;
 use sqlite::Alter;
 use std::alloc::Global;
@@ -34,7 +34,7 @@ fn write_answer<W: Target>(answer: &Answer, target: &mut W) -> Result<(), WriteF
         (W.failed target.new) (answer_text answer.now) }
 {
     match answer {
-        Ok(reply) => write_reply(Format::List(ListFormat::Text), reply, target),
+        Ok(reply) => write_reply(TEXT, reply, target),
         Err(refusal) => write_refusal(refusal, target),
     }
 }

@@ -2,10 +2,9 @@
 
 ghost use Rattle.std.specs.Prelude.{◌≡◌, IfOk, MatchBool, codes};
 ghost use Rattle.ftd_desk.specs.Desks.{held};
-ghost use Rattle.ftd_answers.specs.Formats.{list_format};
 ghost use Rattle.ftd_program.specs.Doing.{Does};
 ghost use Rattle.ftd_program.specs.Performing.{Asks, AsksDue, Performs, PerformsDue};
-ghost use Rattle.ftd_program.specs.Performing.{PrintsAnswer};
+ghost use Rattle.ftd_program.specs.Performing.{PrintsAnswer, is_text};
 ghost use Rattle.ftd_program.specs.Performing.{PerformsImport, PerformsTrial, PrintsRefusal};
 ghost use Rattle.ftd_program.specs.Performing.{PrintsReply, PrintsStop, PrintsSummary};
 ghost use Rattle.ftd_machine.specs.Laws.{IsBounded};
@@ -29,7 +28,7 @@ use crate::record_notes::put_refusals;
 use crate::settle::settle;
 use crate::summaries::{write_bad_header, write_summary};
 use crate::{ImportStop, Progress, StopCause, Summary, import, import_trial};
-use ftd_answers::{DueText, Format, ListFormat, UnwrittenText};
+use ftd_answers::{DueText, ListFormat, UnwrittenText};
 use ftd_cli::Job;
 use ftd_csv::{Sheet, write_record_hints};
 use ftd_days::{Day, Quarter};
@@ -37,6 +36,7 @@ use ftd_desk::{Desk, DueFault};
 use ftd_machine::{Answer, Question, Refusal, Reply, Request};
 use ftd_ports::Target;
 use ftd_replies::{HintFacts, put, status_of, write_below, write_reply, write_told};
+use ftd_verbs::AnswerFormat;
 use sqlite::Alter;
 use std::alloc::Global;
 
@@ -91,7 +91,7 @@ pub fn perform<S: Alter, O: Target, E: Target, P: Progress>(
 fn ask<S: Alter, O: Target, E: Target>(
     desk: &mut Desk<S>,
     db: &str,
-    format: Format,
+    format: AnswerFormat,
     request: Request,
     out: O,
     err: E,
@@ -126,7 +126,7 @@ fn ask<S: Alter, O: Target, E: Target>(
 fn ask_due<S: Alter, O: Target, E: Target>(
     desk: &mut Desk<S>,
     db: &str,
-    format: Format,
+    format: AnswerFormat,
     request: &Request,
     account: &str,
     quarter: Quarter,
@@ -136,11 +136,22 @@ fn ask_due<S: Alter, O: Target, E: Target>(
 ) -> JobEnd<O, E>
     requires asked { request.now ≡ requests.Question (DueList account.now quarter as_of) }
     ensures { AsksDue S.Store O.taken O.failed E.taken E.failed out err result
-        desk.old desk.new db.now (list_format format) format request.now account.now quarter as_of }
+        desk.old desk.new db.now (is_text format) format request.now account.now quarter as_of }
 {
-    match format.of_list() {
-        ListFormat::Text => list_due(desk, db, request, account, quarter, as_of, out, err),
-        ListFormat::Csv | ListFormat::Json => answer(desk, db, format, request, out, err),
+    if is_text(format) {
+        list_due(desk, db, request, account, quarter, as_of, out, err)
+    } else {
+        answer(desk, db, format, request, out, err)
+    }
+}
+
+/// Whether a list is told as text in this format.
+fn is_text(format: AnswerFormat) -> bool
+    ensures { result ≡ is_text format }
+{
+    match format {
+        AnswerFormat::Plain(format) => matches!(format.of_list(), ListFormat::Text),
+        AnswerFormat::Page => false,
     }
 }
 
@@ -149,7 +160,7 @@ fn ask_due<S: Alter, O: Target, E: Target>(
 pub(crate) fn answer<S: Alter, O: Target, E: Target>(
     desk: &mut Desk<S>,
     db: &str,
-    format: Format,
+    format: AnswerFormat,
     request: &Request,
     out: O,
     err: E,
@@ -165,7 +176,7 @@ pub(crate) fn answer<S: Alter, O: Target, E: Target>(
 pub(crate) fn print_answer<S: Alter, O: Target, E: Target>(
     desk: &mut Desk<S>,
     db: &str,
-    format: Format,
+    format: AnswerFormat,
     request: &Request,
     answer: &Answer,
     out: O,
@@ -406,7 +417,7 @@ fn put_below<E: Target>(db: &str, request: &Request, reply: &Reply, err: &mut E)
 /// Prints the text of a reply, in a format where it is a list, and what is said below it.
 pub(crate) fn print_reply<O: Target, E: Target>(
     db: &str,
-    format: Format,
+    format: AnswerFormat,
     request: &Request,
     reply: &Reply,
     out: O,

@@ -9,16 +9,16 @@ ghost use Rattle.ftd_replies.specs.RequestLines.{request_line};
 ghost use Rattle.ftd_machine.specs.declared.replies.Reply.TheVariants.{Already};
 ghost use Rattle.ftd_replies.specs.Replies.{reply_text};
 ghost use Rattle.ftd_replies.specs.declared.hints.HintFacts.TheVariants.{Nothing};
-ghost use Rattle.ftd_program.specs.Performing.{AsksAfter, PrintsOut, PrintsRefusal, as_text};
+ghost use Rattle.ftd_program.specs.Performing.{AsksAfter, PrintsOut, PrintsRefusal};
 ghost use Rattle.ftd_program.specs.Settling.{PaysEach, PaysLeft, PaysOne, PaysRows, PrintsNothing};
 ghost use Rattle.ftd_program.specs.Settling.{Settles, SettlesDue, due_question, is_own};
 ghost use Rattle.ftd_program.specs.Settling.{nothing_text, payment_if};
 ghost use Rattle.ftd_program.specs.Settling.{payments_left, rows_in, years_question};
+ghost use Rattle.ftd_verbs.specs.Formats.{as_text};
 
 use crate::noting::answer_then_note;
 use crate::performing::{JobEnd, fail_output, print_answer, print_refusal};
 use crate::record_notes::same_name;
-use crate::understood::TEXT;
 use ftd_answers::{day_bytes, left_of};
 use ftd_cli::Settlement;
 use ftd_days::Day;
@@ -29,7 +29,7 @@ use ftd_machine::{
 use ftd_ports::{Target, WriteFault, write_pieces};
 use ftd_replies::{HintFacts, write_reply, write_request};
 use ftd_rules::Payment;
-use ftd_verbs::last_asked;
+use ftd_verbs::{TEXT, last_asked};
 use sqlite::Alter;
 use std::alloc::{AllocError, Global};
 

@@ -19,13 +19,14 @@ ghost use Rattle.ftd_program.specs.Understanding.{UnderstandsWords, job_asked};
 use crate::listed::Listed;
 use crate::performing::{JobEnd, fail_output, perform, print_line};
 use crate::progress::Quiet;
-use crate::understood::{TEXT, Understood, Words, of_request, of_words};
+use crate::understood::{Understood, Words, of_request, of_words};
 use ftd_cli::{
     CliFault, DayClock, Job, Line, Piece, Task, command_words, decide_today, read_line, shown_words,
 };
 use ftd_desk::Desk;
 use ftd_ports::{Port, Target, WriteFault, write_pieces};
 use ftd_replies::{put, request_in, tell};
+use ftd_verbs::TEXT;
 use itoa::Buffer;
 use sqlite::Alter;
 use std::alloc::Global;

@@ -16,10 +16,10 @@ ghost use Rattle.ftd_program.specs.ListedLines.{GivesFirst, IsOf, is_done};
 
 use crate::noting::put_note;
 use crate::performing::{JobEnd, print_refusal, print_reply};
-use ftd_answers::Format;
 use ftd_machine::{Answer, Reply, Request};
 use ftd_ports::Target;
 use ftd_replies::HintFacts;
+use ftd_verbs::AnswerFormat;
 
 /// What the desk was asked for a line, what it answered, and what it answered to what it was asked
 /// after that.
@@ -92,7 +92,7 @@ pub(crate) fn first_told<'r, 'a>(
 /// Prints the answer to a request. Of a refusal nothing is known for hints.
 fn print_given<O: Target, E: Target>(
     db: &str,
-    format: Format,
+    format: AnswerFormat,
     told: &Told<'_, '_>,
     out: O,
     err: E,
@@ -149,7 +149,7 @@ fn note_given<O, E: Target>(db: &str, told: &Told<'_, '_>, first: JobEnd<O, E>) 
 /// Prints what the desk answered for a line, and below it what is said of what it answered then.
 pub(crate) fn tell_answer<O: Target, E: Target>(
     db: &str,
-    format: Format,
+    format: AnswerFormat,
     told: &Told<'_, '_>,
     out: O,
     err: E,

@@ -5,12 +5,9 @@ ghost use Rattle.ftd_cli.specs.declared.tasks.Job.TheVariants.{Ask};
 ghost use Rattle.ftd_machine.specs.Questions.{question_of};
 ghost use Rattle.ftd_program.specs.Understanding.{UnderstoodAs, words_of};
 
-use ftd_answers::{Format, ListFormat};
 use ftd_cli::{CliFault, Job};
 use ftd_machine::Request;
-
-/// The format of an answer that is told in one way, and of one that is asked for in none.
-pub(crate) const TEXT: Format = Format::List(ListFormat::Text);
+use ftd_verbs::AnswerFormat;
 
 /// What a line asks of the desk, a request that is no question.
 #[derive(Drop)]
@@ -18,7 +15,7 @@ pub(crate) struct Entry {
     /// The words of the line, as they are shown.
     pub shown: String,
     /// The format in which a reply is told.
-    pub format: Format,
+    pub format: AnswerFormat,
     pub request: Request,
 }
 
@@ -72,7 +69,7 @@ fn is_question(request: &Request) -> bool
 }
 
 /// The line of these words, as they are shown, that ask this request.
-pub(crate) fn of_request(shown: String, format: Format, request: Request) -> Understood
+pub(crate) fn of_request(shown: String, format: AnswerFormat, request: Request) -> Understood
     ensures { UnderstoodAs (record { shown = shown; asked = Ok (Some (Ask format request)) })
         result }
 {

@@ -7,8 +7,6 @@ use Rattle.clap.specs.Kinds.{Kinds}
 use Rattle.clap.specs.Simple.{Shape, built, built_leaf, inherited, marked_built, with_leaf_noted}
 use Rattle.clap.specs.Walk.{Row, Text, finished, first_of, nothing_held}
 use Rattle.ftd_cli.specs.Apps.{app_for, program, single}
-use Rattle.ftd_answers.specs.declared.formats.Format.TheVariants as format
-use Rattle.ftd_answers.specs.declared.formats.ListFormat.TheVariants.{Text as Lines}
 use Rattle.ftd_cli.specs.Asking.{Wanted, ask, asked_as, asked_by, asked_next, then_with, wanted_of}
 use Rattle.ftd_cli.specs.Asking.{wants_next}
 use Rattle.ftd_cli.specs.Table.{name_text}
@@ -19,6 +17,7 @@ use Rattle.ftd_cli.specs.declared.table.Word.TheVariants as word
 use Rattle.ftd_days.specs.Spelling.{whole_number}
 use Rattle.ftd_machine.specs.declared.requests.Request.{Request}
 use Rattle.ftd_verbs.specs.Asked.{asked as asked_of}
+use Rattle.ftd_verbs.specs.Formats.{as_text}
 use Rattle.ftd_verbs.specs.Rows.{row_of}
 use Rattle.ftd_verbs.specs.declared.formats.Formats.TheVariants as formats
 use Rattle.ftd_verbs.specs.declared.rows.Verb.{Verb}
@@ -79,7 +78,7 @@ in_file db items = flag (codes "--db=" ++ db) ∷ flag (codes "--wait=0") ∷ it
 abbrev pub Asks : Option ℕ → Text → Verb → List Item → Request → Type 0
 Asks today db verb items asked =
     task_of today (codes "ftd" ∷ name_text (name.Verb verb) ∷ map text_of (in_file db items))
-    ≡ Ok (ask db 0 (format.List Lines) asked)
+    ≡ Ok (ask db 0 as_text asked)
 
 -- what is known of a verb behind its words: the faults of these, and the values that they give
 abbrev pub verb_shape : Verb → Shape
@@ -111,7 +110,7 @@ pub record AsksBy (today : Option ℕ) (db : Text) (verb : Verb) (rows : List Ro
 -- by such values it asks the request
 verb_wants : (today : Option ℕ) (db : Text) (verb : Verb) (rows : List Row) (asked : Request)
     → AsksBy today db verb rows asked
-    → wanted_of today (name.Verb verb) rows ≡ Ok (ask db 0 (format.List Lines) asked)
+    → wanted_of today (name.Verb verb) rows ≡ Ok (ask db 0 as_text asked)
 unfolding wanted_of
 verb_wants today db verb rows asked by =
     ap (λ r. then_with (told r) (asked_by verb rows)) by.request
@@ -120,17 +119,17 @@ verb_wants today db verb rows asked by =
     by.own_number
     ∙ ap (λ f. then_with (format_in f rows) (λ format. asked_as rows format asked)) by.fixed
     ∙ ap (λ o. then_with (needed word.Db o) (λ file.
-    then_with (whole_in word.Wait rows) (λ wait. Ok (ask file wait (format.List Lines) asked))))
+    then_with (whole_in word.Wait rows) (λ wait. Ok (ask file wait as_text asked))))
     by.file
     ∙ ap (λ o. then_with (needed word.Wait (option_and_then whole_number o)) (λ wait.
-    Ok (ask db wait (format.List Lines) asked))) by.wait
+    Ok (ask db wait as_text asked))) by.wait
     ∙ ap (λ o. then_with (needed word.Wait o) (λ wait.
-    Ok (ask db wait (format.List Lines) asked))) no_wait
+    Ok (ask db wait as_text asked))) no_wait
 
 -- and so its words ask it, where they have no fault
 pub verb_asks : (today : Option ℕ) (db : Text) (verb : Verb) (items : List Item) (asked : Request)
     → IsCommand (name.Verb verb) → are_items items ≡ true → faults_in db verb items ≡ []
     → AsksBy today db verb (rows_in db verb items) asked → Asks today db verb items asked
 verb_asks today db verb items asked c are faults by =
-    asks_by today (name.Verb verb) (in_file db items) (ask db 0 (format.List Lines) asked) c are
+    asks_by today (name.Verb verb) (in_file db items) (ask db 0 as_text asked) c are
     faults (verb_wants today db verb (rows_in db verb items) asked by)

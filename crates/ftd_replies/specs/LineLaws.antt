@@ -17,8 +17,7 @@ use Rattle.ftd_machine.specs.declared.requests.Entry.{Entry}
 use Rattle.ftd_machine.specs.declared.requests.Entry.TheVariants as entry
 use Rattle.ftd_machine.specs.declared.requests.Request.{Request}
 use Rattle.ftd_machine.specs.declared.requests.Request.TheVariants as request
-use Rattle.ftd_answers.specs.declared.formats.Format.TheVariants as format
-use Rattle.ftd_answers.specs.declared.formats.ListFormat.TheVariants.{Text as Lines}
+use Rattle.ftd_verbs.specs.Formats.{as_text}
 use Rattle.ftd_cli.specs.Asking.{ask}
 use Rattle.ftd_cli.specs.Lines.{after_line, are_texts, asks_nothing, command_words, first_line}
 use Rattle.ftd_cli.specs.Lines.{line_of}
@@ -109,7 +108,7 @@ pub record IsCommandLine (words : List (List ℕ)) : Type 0 where
 -- words, with the desk's file put among them, ask this request of the desk in that file
 abbrev pub WordsAsk : Option ℕ → List ℕ → List (List ℕ) → Request → Type 0
 WordsAsk today db words asked =
-    task_of today (command_words db words) ≡ Ok (ask db 0 (format.List Lines) asked)
+    task_of today (command_words db words) ≡ Ok (ask db 0 as_text asked)
 
 abbrev pub AsksIt : Option ℕ → List ℕ → Request → Type 0
 AsksIt today db asked = WordsAsk today db (words_of_line asked) asked

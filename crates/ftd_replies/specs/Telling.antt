@@ -48,9 +48,9 @@ kind_text kind.Form = allowed
 -- what is asked for as a format of an answer
 abbrev pub formats_text : Formats → List ℕ
 formats_text formats.Fixed = allowed
-formats_text formats.Explanation = codes "a format: text or json"
-formats_text formats.List = codes "a format: text, csv or json"
-formats_text formats.Calendar = codes "a format: text, csv, json or ics"
+formats_text formats.Explanation = codes "a format: text, json or html"
+formats_text formats.List = codes "a format: text, csv, json or html"
+formats_text formats.Calendar = codes "a format: text, csv, json, html or ics"
 
 -- what is asked for as the value of a word
 abbrev pub asked_text : Word → List ℕ

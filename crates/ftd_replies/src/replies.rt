@@ -4,14 +4,22 @@ ghost use Rattle.ftd_ports.specs.Writing.{Writes};
 ghost use Rattle.ftd_machine.specs.Laws.{IsBounded};
 ghost use Rattle.ftd_replies.specs.Replies.{posted_text, reply_text};
 
-use ftd_answers::{Format, day_bytes, write_facts};
+use ftd_answers::day_bytes;
 use ftd_machine::{Difference, Reply};
+use ftd_pages::{Frame, Style, Ways, write_facts_as};
 use ftd_ports::{Target, WriteFault, write_pieces};
+use ftd_verbs::AnswerFormat;
 use itoa::Buffer;
+
+/// The frame of a command's page: it has the style within, so that it needs no server, and no ways.
+const FRAME: Frame = Frame {
+    style: Style::Within,
+    ways: Ways::Nowhere,
+};
 
 /// Writes the text of a reply, in a format where it has several.
 pub fn write_reply<W: Target>(
-    format: Format,
+    format: AnswerFormat,
     reply: &Reply,
     target: &mut W,
 ) -> Result<(), WriteFault>
@@ -23,7 +31,7 @@ pub fn write_reply<W: Target>(
         Reply::Done => write_pieces(target, &[b"done", b"\n"]),
         Reply::Already => write_pieces(target, &[b"already", b"\n"]),
         Reply::Posted(difference) => write_posted(difference, target),
-        Reply::Told(facts) => write_facts(format, facts, target),
+        Reply::Told(facts) => write_facts_as(&FRAME, format, facts, target),
     }
 }
 

@@ -76,9 +76,9 @@ fn formats_bytes(formats: Formats) -> &'static [u8]
 {
     match formats {
         Formats::Fixed => ALLOWED,
-        Formats::Explanation => b"a format: text or json",
-        Formats::List => b"a format: text, csv or json",
-        Formats::Calendar => b"a format: text, csv, json or ics",
+        Formats::Explanation => b"a format: text, json or html",
+        Formats::List => b"a format: text, csv, json or html",
+        Formats::Calendar => b"a format: text, csv, json, html or ics",
     }
 }
 

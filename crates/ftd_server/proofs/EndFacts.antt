@@ -5,20 +5,20 @@ use Rattle.std.proofs.Common.{subst, arith, append-nil, length-append, length-ta
 use Rattle.std.proofs.lemmas.Bool.{cases_order, false≢true}
 use Rattle.std.proofs.lemmas.List.{get_or_append_left, get_or_push}
 use Rattle.std.proofs.lemmas.List.Elements.{All-nil, All-cons}
-use Rattle.ftd_http.specs.Messages.{Message, IsMessage, message_bytes, AreMessages, closes}
+use Rattle.ftd_http.specs.Messages.{Message, IsMessage, message_bytes, AreMessages}
 use Rattle.ftd_http.specs.Messages.{IsRefused, IsCut, MayBeCutOrRefused}
 use Rattle.ftd_http.specs.declared.status.Status.{Status}
 use Rattle.ftd_http.proofs.CutFacts.{cuts_one, front_of, status_one, whole_or_nothing}
 use Rattle.ftd_http.proofs.CutFacts.{whole_or_cut, whole_or_refused, nothing_or_refused}
 use Rattle.ftd_http.proofs.CutFacts.{cut_or_refused}
 use Rattle.ftd_server.specs.Serving.{AreOpen, Ends, closed, idled, truncated, bad, asked}
-use Rattle.ftd_server.specs.Serving.{limit}
+use Rattle.ftd_server.specs.Serving.{asks_to_end, limit}
 use Rattle.ftd_server.specs.declared.connection.End.{End}
 
 -- after each message but the last the connection stays open
 stays_open : (rest : List ℕ) (ms : List Message) (refusal : Option Status) (how : End)
     → Ends rest ms refusal how → (n : ℕ) (d : Message) → n + 1 < length ms
-    → closes (get_or ms n d) ≡ false
+    → asks_to_end (get_or ms n d) ≡ false
 stays_open rest ms refusal how (closed messages stay none) n d l = stay.stay n d (omega arith)
 stays_open rest ms refusal how (idled messages stay none) n d l = stay.stay n d (omega arith)
 stays_open rest ms refusal how (truncated messages stay cut) n d l = stay.stay n d (omega arith)
@@ -26,11 +26,11 @@ stays_open rest ms refusal how (bad messages status stay refused) n d l =
     stay.stay n d (omega arith)
 stays_open rest ms refusal how (asked messages last stay closing) n d l =
     let size = length-append messages (last ∷ []) in
-    ap closes (get_or_append_left messages (last ∷ []) d n (omega arith))
+    ap asks_to_end (get_or_append_left messages (last ∷ []) d n (omega arith))
     ∙ stay.stay n d (omega arith)
 stays_open rest ms refusal how (limit messages last stay closing all) n d l =
     let size = length-append messages (last ∷ []) in
-    ap closes (get_or_append_left messages (last ∷ []) d n (omega arith))
+    ap asks_to_end (get_or_append_left messages (last ∷ []) d n (omega arith))
     ∙ stay.stay n d (omega arith)
 
 at_most_hundred : (rest : List ℕ) (ms : List Message) (refusal : Option Status) (how : End)
@@ -52,11 +52,11 @@ at_most_hundred rest ms refusal how (limit messages last stay closing all) =
 abbrev NoneNext : List ℕ → Type 0
 NoneNext rest = (k : Message) (later : List ℕ) → AreMessages rest (k ∷ []) later → ⊥
 
--- the last message closes
+-- the last message asks for the end
 abbrev LastCloses : List Message → Type 0
 LastCloses ms =
     (messages : List Message) × (last : Message) × (ms ≡ messages ++ last ∷ [])
-    × (closes last ≡ true)
+    × (asks_to_end last ≡ true)
 
 stops_there : (rest : List ℕ) (ms : List Message) (refusal : Option Status) (how : End)
     → Ends rest ms refusal how → NoneNext rest ⊎ (LastCloses ms ⊎ (100 ≤ length ms))
@@ -97,7 +97,7 @@ no_shorter bytes r q ms ks refusal other_refusal how other g ends h goes less =
           sym (get_or-take (length ms) ks n its.1 (omega arith))
           ∙ (ap (λ z. get_or z n its.1) (sym same.0 ∙ its.2)
           ∙ get_or_push its.0 its.1 its.1 n refl) in
-          false≢true (sym stay ∙ (ap closes at ∙ its.3))
+          false≢true (sym stay ∙ (ap asks_to_end at ∙ its.3))
       | inr (inr all) ↦ (let most = at_most_hundred q ks other_refusal other goes in omega arith)
     ]
 
@@ -136,7 +136,7 @@ refusal_so rest ms refusal how (asked messages last stay closing) =
           let size = length-append messages (last ∷ []) in
           let at = get_or_push messages last last (length messages) refl in
           let still = open_still.stay (length messages) last (omega arith) in
-          false≢true (sym still ∙ (ap closes at ∙ closing)))),
+          false≢true (sym still ∙ (ap asks_to_end at ∙ closing)))),
     )
 refusal_so rest ms refusal how (limit messages last stay closing all) =
     inr (

@@ -17,11 +17,11 @@ use Rattle.ftd_http.specs.declared.look.Parts.{Parts}
 use Rattle.ftd_http.specs.declared.status.Status.{Status}
 use Rattle.httparse.specs.Spans.{span_bytes}
 use Rattle.ftd_server.specs.Responses.{Said, response_text}
-use Rattle.ftd_http.specs.Asking.{asked_of}
+use Rattle.ftd_http.specs.Asking.{asked_of, is_for_browser}
 use Rattle.ftd_http.specs.declared.ask.Inquiry.{Inquiry}
 use Rattle.ftd_server.specs.Serving.{Ends, closed, truncated, bad, asked, limit, idled}
-use Rattle.ftd_server.specs.Serving.{closes_after, refusal_text, IsAnswer, none, more, Broken}
-use Rattle.ftd_server.specs.Serving.{refusal_count}
+use Rattle.ftd_server.specs.Serving.{asks_to_end, closes_after, refusal_text, IsAnswer, none, more}
+use Rattle.ftd_server.specs.Serving.{Broken, refusal_count}
 use Rattle.ftd_server.specs.Serving.{ServesMessages, BreaksOff, unasked, in_answer, Answered}
 use Rattle.ftd_server.specs.Serving.{in_refusal, Breaks, HasEnded, HasFailed, Talk}
 use Rattle.ftd_server.specs.declared.connection.End.{End}
@@ -67,7 +67,7 @@ module _ {M : Type 0} (goes : M → Inquiry → List ℕ → Said → M → Type
         text = [];
         gives = Consumes-nil left;
         are = record { are = All-nil IsMessage; parts = refl };
-        stay = record { stay = All-nil (λ m. closes m ≡ false); few = omega arith };
+        stay = record { stay = All-nil (λ m. asks_to_end m ≡ false); few = omega arith };
         answers = none;
         written = Appends-nil taken;
         count = refl;
@@ -98,13 +98,13 @@ module _ {M : Type 0} (goes : M → Inquiry → List ℕ → Said → M → Type
 
   -- one more message is answered, after which the connection stays open
   pub goes_on : (start now later : M) (left left' taken mid taken' : Option (List ℕ)) (buf : List ℕ)
-      (answered : ℕ) (parts : Parts) (message : Message) (answer : List ℕ)
+      (answered : ℕ) (parts : Parts) (message : Message) (answer : List ℕ) (ends : Bool)
       → (talk : Talk goes start now left left' taken mid buf answered)
       → IsMessageAt buf parts message → IsAnswer goes answered now message answer later
-      → Appends mid taken' answer → parts.closes ≡ false → answered < 99
+      → Appends mid taken' answer → ends ≡ asks_to_end message → ends ≡ false → answered < 99
       → Talk goes start later left left' taken taken' (drop parts.end buf) (answered + 1)
-  goes_on start now later left left' taken mid taken' buf answered parts message answer talk at is
-      written stays few =
+  goes_on start now later left left' taken mid taken' buf answered parts message answer ends talk at
+      is written so stays few =
       let same = talk.count in
       record {
         read = talk.read;
@@ -113,8 +113,8 @@ module _ {M : Type 0} (goes : M → Inquiry → List ℕ → Said → M → Type
         gives = talk.gives;
         are = more_messages talk.read buf talk.messages parts message talk.are at;
         stay = record {
-          stay = All-push (λ m. closes m ≡ false) talk.messages message talk.stay.stay
-              (sym at.closes ∙ stays);
+          stay = All-push (λ m. asks_to_end m ≡ false) talk.messages message talk.stay.stay
+              (sym so ∙ stays);
           few = (let l = length-append talk.messages (message ∷ []) in omega arith);
         };
         answers = more talk.messages talk.text now message answer later talk.answers
@@ -225,31 +225,33 @@ module _ {M : Type 0} (goes : M → Inquiry → List ℕ → Said → M → Type
 
   pub ends_asked : (start now later : M) (left left' taken mid taken' : Option (List ℕ))
       (buf : List ℕ) (answered : ℕ) (is_idle : Bool) (parts : Parts) (message : Message)
-      (answer : List ℕ)
+      (answer : List ℕ) (ends : Bool)
       → Talk goes start now left left' taken mid buf answered → IsMessageAt buf parts message
       → IsAnswer goes answered now message answer later
-      → Appends mid taken' answer → parts.closes ≡ true
+      → Appends mid taken' answer → ends ≡ asks_to_end message
+      → ends ≡ true
       → ServesMessages (Answered goes start later) left left' is_idle taken taken'
       (record { answered = answered + 1; end = end.Asked })
   ends_asked start now later left left' taken mid taken' buf answered is_idle parts message answer
-      talk at is written asks =
+      ends talk at is written so asks =
       last start now later left left' taken mid taken' buf answered is_idle parts message answer
       end.Asked talk at is written
-      (asked talk.messages message talk.stay (sym at.closes ∙ asks)) tt
+      (asked talk.messages message talk.stay (sym so ∙ asks)) tt
 
   pub ends_limit : (start now later : M) (left left' taken mid taken' : Option (List ℕ))
       (buf : List ℕ) (answered : ℕ) (is_idle : Bool) (parts : Parts) (message : Message)
-      (answer : List ℕ)
+      (answer : List ℕ) (ends : Bool)
       → Talk goes start now left left' taken mid buf answered → IsMessageAt buf parts message
       → IsAnswer goes answered now message answer later
-      → Appends mid taken' answer → parts.closes ≡ false → answered ≡ 99
+      → Appends mid taken' answer → ends ≡ asks_to_end message
+      → ends ≡ false → answered ≡ 99
       → ServesMessages (Answered goes start later) left left' is_idle taken taken'
       (record { answered = answered + 1; end = end.Limit })
   ends_limit start now later left left' taken mid taken' buf answered is_idle parts message answer
-      talk at is written stays full =
+      ends talk at is written so stays full =
       last start now later left left' taken mid taken' buf answered is_idle parts message answer
       end.Limit talk at is written
-      (limit talk.messages message talk.stay (sym at.closes ∙ stays) (sym talk.count ∙ full)) tt
+      (limit talk.messages message talk.stay (sym so ∙ stays) (sym talk.count ∙ full)) tt
 
   -- serving fails in the next message
   pub breaks_in : (start now later : M) (left left' taken mid taken' : Option (List ℕ))
@@ -325,12 +327,35 @@ module _ {M : Type 0} (goes : M → Inquiry → List ℕ → Said → M → Type
       let P : Inquiry → Type 0 = λ a. goes now a message.body said later in
       subst P (asked_at buf parts message what at is) (rw at.body at responds)
 
-  -- whether the connection closes after the answer, by the parts of the message
-  closing_at : (before : ℕ) (buf : List ℕ) (parts : Parts) (message : Message) (close : Bool)
+  -- whether the message asks for the end, by its parts
+  pub ends_at : (buf : List ℕ) (parts : Parts) (message : Message) (what : Inquiry) (ends : Bool)
       → IsMessageAt buf parts message
-      → close ≡ (parts.closes || (before == 99)) → close ≡ closes_after before message
-  closing_at before buf parts message close at is = is
-      ∙ ap (λ (b : Bool). b || (before == 99)) at.closes
+      → what ≡ asked_of (span_bytes buf parts.method) (span_bytes buf parts.target)
+      (slice_range buf parts.body parts.end)
+      → ends ≡ (parts.closes || is_for_browser what) → ends ≡ asks_to_end message
+  unfolding asks_to_end
+  ends_at buf parts message what ends at is so =
+      so ∙ ap (λ (b : Bool). b || is_for_browser what) at.closes
+      ∙ ap (λ (w : Inquiry). closes message || is_for_browser w)
+      (asked_at buf parts message what at is)
+
+  -- what is sent is the answer to the message
+  pub answer_is : (before : ℕ) (buf : List ℕ) (parts : Parts) (message : Message) (what : Inquiry)
+      (now later : M) (said : Said) (ends close : Bool)
+      → IsMessageAt buf parts message
+      → what ≡ asked_of (span_bytes buf parts.method) (span_bytes buf parts.target)
+      (slice_range buf parts.body parts.end)
+      → ends ≡ (parts.closes || is_for_browser what) → close ≡ (ends || (before == 99))
+      → goes now what (slice_range buf parts.body parts.end) said later
+      → IsAnswer goes before now message (response_text said close) later
+  answer_is before buf parts message what now later said ends close at is so closing responds =
+      record {
+        said = said;
+        responds = responds_at buf parts message what now later said at is responds;
+        is = ap (λ b. response_text said b)
+            (closing ∙ ap (λ (b : Bool). b || (before == 99))
+            (ends_at buf parts message what ends at is so));
+      }
 
   -- there is no memory for the answer
   pub lost_answer : (before : ℕ) (buf : List ℕ) (parts : Parts) (message : Message) (what : Inquiry)
@@ -359,26 +384,21 @@ module _ {M : Type 0} (goes : M → Inquiry → List ℕ → Said → M → Type
 
   -- the answer is written in part
   pub half_answer : (before : ℕ) (buf : List ℕ) (parts : Parts) (message : Message) (what : Inquiry)
-      (now later : M) (said : Said) (close : Bool) (taken taken' : Option (List ℕ))
+      (now later : M) (said : Said) (ends close : Bool) (taken taken' : Option (List ℕ))
       → IsMessageAt buf parts message
       → what ≡ asked_of (span_bytes buf parts.method) (span_bytes buf parts.target)
       (slice_range buf parts.body parts.end)
-      → close ≡ (parts.closes || (before == 99))
+      → ends ≡ (parts.closes || is_for_browser what) → close ≡ (ends || (before == 99))
       → goes now what (slice_range buf parts.body parts.end) said later
       → WritesPrefix taken taken' (response_text said close)
       → (part : List ℕ) × BreaksOff goes before buf now later part why.Write
       × Appends taken taken' part
-  half_answer before buf parts message what now later said close taken taken' at is closing responds
-      p =
-      let closing = closing_at before buf parts message close at closing in (
+  half_answer before buf parts message what now later said ends close taken taken' at is so closing
+      responds p =
+      let whole = answer_is before buf parts message what now later said ends close at is so closing
+      responds in (
         p.written,
-        in_answer message (drop parts.end buf) p.written p.unwritten why.Write
-            (λ e. cc) at.is at.reads
-            (record {
-              said = said;
-              responds = responds_at buf parts message what now later said at
-                  is responds;
-              is = sym p.parts ∙ ap (λ b. response_text said b) closing;
-            }),
+        in_answer message (drop parts.end buf) p.written p.unwritten why.Write (λ e. cc) at.is
+            at.reads (subst (λ text. IsAnswer goes before now message text later) p.parts whole),
         p.appends,
       )

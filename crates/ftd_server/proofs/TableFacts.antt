@@ -9,13 +9,12 @@ use Rattle.ftd_machine.specs.Runs.{Goes}
 use Rattle.ftd_desk.specs.Desks.{Held, held}
 use Rattle.ftd_desk.specs.declared.desk.Desk.{Desk}
 use Rattle.ftd_http.specs.Messages.{Message}
-use Rattle.ftd_http.specs.Asking.{asked_of}
 use Rattle.ftd_http.specs.declared.ask.Inquiry.{Inquiry}
 use Rattle.ftd_http.specs.declared.ask.Inquiry.TheVariants as asked
 use Rattle.ftd_server.specs.Responses.{Said}
 use Rattle.ftd_server.specs.Replying.{ByRequests, Responds}
 use Rattle.ftd_server.specs.Serving.{IsAnswer, Answers, none, more, Answered, Broken}
-use Rattle.ftd_server.specs.Serving.{BreaksOff, unasked, in_answer, in_refusal}
+use Rattle.ftd_server.specs.Serving.{BreaksOff, unasked, in_answer, in_refusal, inquiry_of}
 use Rattle.ftd_server.specs.Serving.{ServesMessages, Breaks}
 use Rattle.ftd_server.specs.Tables.{Follows, AnsweredBy, BrokenBy, handles}
 use Rattle.ftd_server.specs.declared.connection.Cause.{Cause}
@@ -94,6 +93,8 @@ module _ {S : Type 0} (g : store.Ghosts S) where
       (λ s. (refl, is))
   responds now later (asked.Journal account) said (same, is) =
       same_desk _ _ _ (held_same now later same) (λ s. (refl, is))
+  responds now later asked.StyleSheet said (same, is) =
+      same_desk _ _ _ (held_same now later same) (λ s. (refl, is))
   responds now later (asked.Asks format request) said (answer, handled, is) =
       record {
         honest = handled.honest;
@@ -108,7 +109,7 @@ module _ {S : Type 0} (g : store.Ghosts S) where
       → IsAnswer goes before now message text later
       → Follows (held g now) (held g later) (λ s end. IsAnswer Alone before s message text end)
   one_answer before now later message text answer =
-      let what = asked_of message.head.method message.head.target message.body in
+      let what = inquiry_of message in
       weaker _ _ (λ s end. Responds Goes s what answer.said end) _
       (responds now later what answer.said answer.responds)
       (λ s end one. record { said = answer.said; responds = one; is = answer.is })

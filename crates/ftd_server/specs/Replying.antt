@@ -7,11 +7,14 @@ use Rattle.ftd_machine.specs.declared.replies.Difference.{Difference}
 use Rattle.ftd_machine.specs.declared.replies.Reply.{Reply}
 use Rattle.ftd_machine.specs.declared.replies.Reply.TheVariants as reply
 use Rattle.ftd_machine.specs.Checks.{Answer}
-use Rattle.ftd_answers.specs.Facts.{facts_text}
 use Rattle.ftd_answers.specs.Fields.{Told, members_of, number_field, object_of, text_field}
-use Rattle.ftd_answers.specs.declared.formats.Format.{Format}
+use Rattle.ftd_pages.specs.Formats.{facts_as}
+use Rattle.ftd_pages.specs.declared.frames.Frame.{Frame}
+use Rattle.ftd_pages.specs.declared.frames.Style.TheVariants.{Linked}
+use Rattle.ftd_pages.specs.declared.frames.Ways.TheVariants.{Nowhere}
+use Rattle.ftd_verbs.specs.declared.formats.AnswerFormat.{AnswerFormat}
 use Rattle.ftd_server.specs.Responses.{Said, bare, formatted, json}
-use Rattle.ftd_server.specs.Responses.{other_method}
+use Rattle.ftd_server.specs.Responses.{other_method, style_sheet}
 use Rattle.ftd_server.specs.Refusals.{refused}
 use Rattle.ftd_http.specs.declared.ask.Inquiry.{Inquiry}
 use Rattle.ftd_http.specs.declared.ask.Inquiry.TheVariants as asked
@@ -30,14 +33,18 @@ posted_fields d =
 abbrev pub posted : Difference → Said
 posted d = json status.Okay (object_of (members_of (posted_fields d)))
 
+-- the frame of the server's pages: its style sheet is a route, and it has no ways
+abbrev pub server_frame : Frame
+server_frame = record { style = Linked; ways = Nowhere }
+
 -- the response to a reply, in a format where it has several
-abbrev pub replied : Format → Reply → Said
+abbrev pub replied : AnswerFormat → Reply → Said
 replied format reply.Done = named (codes "done")
 replied format reply.Already = named (codes "already")
 replied format (reply.Posted difference) = posted difference
-replied format (reply.Told facts) = formatted format (facts_text format facts)
+replied format (reply.Told facts) = formatted format (facts_as server_frame format facts)
 
-abbrev pub answered : Format → Answer → Said
+abbrev pub answered : AnswerFormat → Answer → Said
 answered format (Ok reply) = replied format reply
 answered format (Err refusal) = refused refusal
 
@@ -50,6 +57,7 @@ module _ {M : Type 0} (goes : M → Request → Answer → M → Type 0) where
   Responds now asked.BadForm said later = (later ≡ now) × (said ≡ bare status.BadRequest)
   Responds now asked.Commands said later = (later ≡ now) × (said ≡ bare status.NotFound)
   Responds now (asked.Journal account) said later = (later ≡ now) × (said ≡ bare status.NotFound)
+  Responds now asked.StyleSheet said later = (later ≡ now) × (said ≡ style_sheet)
   Responds now (asked.Asks format request) said later =
       (answer : Answer) × goes now request answer later × (said ≡ answered format answer)
 

@@ -9,6 +9,9 @@ use Rattle.ftd_answers.specs.declared.formats.Format.{Format}
 use Rattle.ftd_answers.specs.declared.formats.Format.TheVariants as format
 use Rattle.ftd_answers.specs.declared.formats.ListFormat.{ListFormat}
 use Rattle.ftd_answers.specs.declared.formats.ListFormat.TheVariants.{Text, Csv, Json}
+use Rattle.ftd_pages.specs.declared.style.TheConstants.{STYLE}
+use Rattle.ftd_verbs.specs.declared.formats.AnswerFormat.{AnswerFormat}
+use Rattle.ftd_verbs.specs.declared.formats.AnswerFormat.TheVariants.{Plain, Page}
 use Rattle.ftd_verbs.specs.declared.rows.Method.{Method}
 use Rattle.ftd_http.specs.Asking.{method_text}
 use Rattle.ftd_server.specs.declared.response.Content.{Content}
@@ -44,13 +47,26 @@ list_content Text = content.Text
 list_content Csv = content.Csv
 list_content Json = content.Json
 
-abbrev pub content_of : Format → Content
-content_of (format.List of_list) = list_content of_list
-content_of format.Calendar = content.Calendar
+abbrev pub plain_content : Format → Content
+plain_content (format.List of_list) = list_content of_list
+plain_content format.Calendar = content.Calendar
 
-abbrev pub formatted : Format → List ℕ → Said
+abbrev pub content_of : AnswerFormat → Content
+content_of (Plain format) = plain_content format
+content_of Page = content.Page
+
+abbrev pub formatted : AnswerFormat → List ℕ → Said
 formatted format body =
     record { status = status.Okay; allow = None; content = content_of format; body = body }
+
+-- the response with the style sheet of the pages
+abbrev pub style_sheet : Said
+style_sheet = record {
+  status = status.Okay;
+  allow = None;
+  content = content.StyleSheet;
+  body = STYLE.now;
+}
 
 -- the end of a line
 abbrev pub line_end : List ℕ
@@ -80,6 +96,23 @@ content_line content.Json = codes "Content-Type: application/json" ++ line_end
 content_line content.Text = codes "Content-Type: text/plain" ++ line_end
 content_line content.Csv = codes "Content-Type: text/csv" ++ line_end
 content_line content.Calendar = codes "Content-Type: text/calendar" ++ line_end
+content_line content.Page = codes "Content-Type: text/html; charset=utf-8" ++ line_end
+content_line content.StyleSheet = codes "Content-Type: text/css; charset=utf-8" ++ line_end
+
+-- the security headers of a page: it loads the server's style sheet and nothing else; its forms are
+-- sent to this server alone; no other page shows it in a frame; its links have no other base; its
+-- type is not guessed, its address is not sent to other pages, and no copy of it is kept
+unfoldable pub page_security : List ℕ
+page_security = concat (
+    codes "Content-Security-Policy: default-src 'none'; style-src 'self'; form-action 'self'; "
+    ∷ codes "frame-ancestors 'none'; base-uri 'none'" ∷ line_end
+    ∷ codes "X-Content-Type-Options: nosniff" ∷ line_end
+    ∷ codes "Referrer-Policy: no-referrer" ∷ line_end
+    ∷ codes "Cache-Control: no-store" ∷ line_end ∷ [])
+
+abbrev pub security_lines : Content → List ℕ
+security_lines content.Page = page_security
+security_lines other = []
 
 abbrev pub connection_line : Bool → List ℕ
 connection_line false = []
@@ -89,7 +122,7 @@ connection_line true = codes "Connection: close" ++ line_end
 unfoldable pub head_text : Said → Bool → List ℕ
 head_text said closes = concat (
     codes "HTTP/1.1 " ∷ status_text said.status ∷ line_end
-    ∷ allow_line said.allow ∷ content_line said.content
+    ∷ allow_line said.allow ∷ content_line said.content ∷ security_lines said.content
     ∷ codes "Content-Length: " ∷ decimal (length said.body) ∷ line_end
     ∷ connection_line closes ∷ line_end ∷ [])
 

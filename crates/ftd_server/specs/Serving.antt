@@ -8,7 +8,7 @@ use Rattle.ftd_http.specs.Messages.{IsRefused, IsCut}
 use Rattle.ftd_http.specs.declared.status.Status.{Status}
 use Rattle.ftd_http.specs.declared.ask.Inquiry.{Inquiry}
 use Rattle.ftd_server.specs.Responses.{Said, bare, response_text}
-use Rattle.ftd_http.specs.Asking.{asked_of}
+use Rattle.ftd_http.specs.Asking.{asked_of, is_for_browser}
 use Rattle.ftd_server.specs.declared.connection.End.{End}
 use Rattle.ftd_server.specs.declared.connection.End.TheVariants as end
 use Rattle.ftd_server.specs.declared.connection.Cause.{Cause}
@@ -16,9 +16,18 @@ use Rattle.ftd_server.specs.declared.connection.Cause.TheVariants as why
 use Rattle.ftd_server.specs.declared.connection.ServedConnection.{ServedConnection}
 use Rattle.ftd_server.specs.declared.connection.ServeFault.{ServeFault}
 
--- fewer than 100 messages, after none of which the connection closes
+-- what a message asks
+abbrev pub inquiry_of : Message → Inquiry
+inquiry_of message = asked_of message.head.method message.head.target message.body
+
+-- A message asks for the end of its connection: its head does, or it asks for what a browser shows,
+-- which would keep the connection while another client waits.
+unfoldable pub asks_to_end : Message → Bool
+asks_to_end message = closes message || is_for_browser (inquiry_of message)
+
+-- fewer than 100 messages, none of which asks for the end
 pub record AreOpen (messages : List Message) : Type 0 where
-  pub stay : All (λ message. closes message ≡ false) messages
+  pub stay : All (λ message. asks_to_end message ≡ false) messages
   pub few : length messages < MOST_MESSAGES
 
 -- How a stream ends after these messages, where `rest` is what comes after them: between two
@@ -33,15 +42,15 @@ pub data Ends (rest : List ℕ) : List Message → Option Status → End → Typ
       → Ends rest messages None end.Truncated
   bad : (messages : List Message) (status : Status) → AreOpen messages → IsRefused rest status
       → Ends rest messages (Some status) end.BadMessage
-  asked : (messages : List Message) (last : Message) → AreOpen messages → closes last ≡ true
+  asked : (messages : List Message) (last : Message) → AreOpen messages → asks_to_end last ≡ true
       → Ends rest (messages ++ last ∷ []) None end.Asked
-  limit : (messages : List Message) (last : Message) → AreOpen messages → closes last ≡ false
+  limit : (messages : List Message) (last : Message) → AreOpen messages → asks_to_end last ≡ false
       → length messages ≡ MOST_MESSAGES - 1
       → Ends rest (messages ++ last ∷ []) None end.Limit
 
 -- the connection closes after the answer to a message that comes after so many others
 abbrev pub closes_after : ℕ → Message → Bool
-closes_after before message = closes message || (before == MOST_MESSAGES - 1)
+closes_after before message = asks_to_end message || (before == MOST_MESSAGES - 1)
 
 -- the answer to a refused message
 abbrev pub refusal_text : Option Status → List ℕ
@@ -58,8 +67,7 @@ module _ {M : Type 0} (goes : M → Inquiry → List ℕ → Said → M → Type
   pub record IsAnswer (before : ℕ) (now : M) (message : Message) (text : List ℕ)
       (later : M) : Type 0 where
     pub said : Said
-    pub responds : goes now (asked_of message.head.method message.head.target message.body)
-        message.body said later
+    pub responds : goes now (inquiry_of message) message.body said later
     pub is : text ≡ response_text said (closes_after before message)
 
   -- messages one after the other, the text of their answers, and the machine after them

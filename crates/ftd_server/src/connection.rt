@@ -5,15 +5,19 @@ ghost use Rattle.std.specs.Prelude.{true, false};
 ghost use Rattle.std.specs.Prelude.{IfOk, IfErr, OnOk, drop, vec_len};
 ghost use Rattle.std.specs.Io.KnownBytes.{Appends};
 ghost use Rattle.ftd_ports.specs.Writing.{Writes};
+ghost use Rattle.ftd_http.specs.Asking.{is_for_browser};
 ghost use Rattle.ftd_http.specs.Messages.{Message};
 ghost use Rattle.ftd_http.specs.Looks.{IsMessageAt, ArePartsOf};
 ghost use Rattle.ftd_http.specs.Routes.{all_routes};
 ghost use Rattle.ftd_server.specs.Serving.{Answered, Broken, ServesMessages, Breaks, Proceeds};
-ghost use Rattle.ftd_server.specs.Serving.{IsAnswer, BreaksOff, HasFailed, refusal_text};
+ghost use Rattle.ftd_server.specs.Serving.{IsAnswer, BreaksOff, HasFailed, asks_to_end};
+ghost use Rattle.ftd_server.specs.Serving.{refusal_text};
 
 use crate::machine::Machine;
 use crate::response::{bare_response, write_response};
-use ftd_http::{Next, Parts, Peer, ReadFault, Status, make_router, next_message, what_is_asked};
+use ftd_http::{
+    Inquiry, Next, Parts, Peer, ReadFault, Status, make_router, next_message, what_is_asked,
+};
 use ftd_ports::{Target, WriteFault};
 use ftd_verbs::Verb;
 use matchit::Router;
@@ -24,7 +28,7 @@ use std::alloc::Global;
 pub enum End {
     /// The peer closed it, between two messages.
     Closed,
-    /// A message asked for it.
+    /// A message asked for it, by its head or by what a browser shows.
     Asked,
     /// A hundred messages were answered.
     Limit,
@@ -131,12 +135,12 @@ fn serve_next<By, M: Machine<By>, R: Peer, W: Target>(
         Next::Truncated => return Ok(Some(ended(answered, End::Truncated))),
         Next::Idle => return Ok(Some(ended(answered, End::Idle))),
     };
-    match answer(alloc, router, machine, target, buf, &parts, answered) {
-        Ok(()) => {}
+    let ends = match answer(alloc, router, machine, target, buf, &parts, answered) {
+        Ok(ends) => ends,
         Err(cause) => return Err(failed(answered, cause)),
-    }
+    };
     drop_front(buf, parts.end);
-    if parts.closes {
+    if ends {
         return Ok(Some(ended(answered + 1, End::Asked)));
     }
     if answered == MOST_MESSAGES - 1 {
@@ -159,11 +163,20 @@ fn failed(answered: u32, cause: Cause) -> ServeFault
     ServeFault { answered, cause }
 }
 
-/// Whether the connection closes after the answer to a message that comes after so many others.
-fn closes_after(answered: u32, closes: bool) -> bool
-    ensures { result ≡ (closes || (answered == MOST_MESSAGES - 1)) }
+/// Whether a message asks for the end of its connection: its head does, or it asks for what a
+/// browser shows, which would keep the connection while another client waits.
+fn asks_to_end(parts: &Parts, asked: &Inquiry) -> bool
+    ensures { result ≡ (parts.now.closes || is_for_browser asked.now) }
 {
-    closes || answered == MOST_MESSAGES - 1
+    parts.closes || asked.is_for_browser()
+}
+
+/// Whether the connection closes after the answer to a message that comes after so many others,
+/// where it asks for the end or not.
+fn closes_after(answered: u32, ends: bool) -> bool
+    ensures { result ≡ (ends || (answered == MOST_MESSAGES - 1)) }
+{
+    ends || answered == MOST_MESSAGES - 1
 }
 
 /// Answers a message that is refused by its head.
@@ -174,7 +187,8 @@ fn refuse<W: Target>(alloc: Global, target: &mut W, status: Status) -> Result<()
     write_response(alloc, target, &bare_response(alloc, status), true)
 }
 
-/// Answers the message at the front of the buffer, after so many others.
+/// Answers the message at the front of the buffer, after so many others; and whether it asks for
+/// the end of the connection.
 fn answer<By, M: Machine<By>, W: Target>(
     alloc: Global,
     router: &Router<Verb>,
@@ -183,12 +197,14 @@ fn answer<By, M: Machine<By>, W: Target>(
     buf: &[u8],
     parts: &Parts,
     answered: u32,
-) -> Result<(), Cause>
+) -> Result<bool, Cause>
     requires parts { ArePartsOf buf.now parts.now }
     requires routes { router.now ≡ all_routes }
     ensures ok { OnOk result ((message : Message) → IsMessageAt buf.now parts.now message
         → (text : List ℕ) × IsAnswer M.goes answered machine.old message text machine.new
         × Appends (W.taken target.old) (W.taken target.new) text) }
+    ensures ends { IfOk result (λ ends. (message : Message)
+        → IsMessageAt buf.now parts.now message → ends ≡ asks_to_end message) }
     ensures err { IfErr result (λ cause. (message : Message) → IsMessageAt buf.now parts.now message
         → (part : List ℕ)
         × BreaksOff M.goes answered buf.now machine.old machine.new part cause
@@ -208,13 +224,9 @@ fn answer<By, M: Machine<By>, W: Target>(
     let Ok(response) = machine.respond(alloc, &asked, body) else {
         return Err(Cause::Memory);
     };
-    match write_response(
-        alloc,
-        target,
-        &response,
-        closes_after(answered, parts.closes),
-    ) {
-        Ok(()) => Ok(()),
+    let ends = asks_to_end(parts, &asked);
+    match write_response(alloc, target, &response, closes_after(answered, ends)) {
+        Ok(()) => Ok(ends),
         Err(_) => Err(Cause::Write),
     }
 }

@@ -8,11 +8,14 @@ ghost use Rattle.ftd_server.specs.Tables.{handles};
 
 use crate::facts::facts_said;
 use crate::refusals::refusal_response;
-use crate::response::{Response, bare_response, json_response, object_text, other_method};
-use ftd_answers::{Format, Value};
+use crate::response::{
+    Response, bare_response, json_response, object_text, other_method, style_response,
+};
+use ftd_answers::Value;
 use ftd_desk::Desk;
 use ftd_http::{Inquiry, Status};
 use ftd_machine::{Answer, Difference, Reply, is_bounded};
+use ftd_verbs::AnswerFormat;
 use sqlite::Alter;
 use std::alloc::{AllocError, Global};
 
@@ -33,6 +36,7 @@ pub fn desk_response<S: Alter>(
         Inquiry::OtherMethod(allow) => Ok(other_method(alloc, *allow)),
         Inquiry::BadForm => Ok(bare_response(alloc, Status::BadRequest)),
         Inquiry::Commands | Inquiry::Journal(_) => Ok(bare_response(alloc, Status::NotFound)),
+        Inquiry::StyleSheet => style_response(alloc),
         Inquiry::Asks { format, request } => {
             let answer = desk.handle(request);
             answered(alloc, *format, &answer)
@@ -41,7 +45,7 @@ pub fn desk_response<S: Alter>(
 }
 
 /// The response to an answer.
-fn answered(alloc: Global, format: Format, answer: &Answer) -> Result<Response, AllocError>
+fn answered(alloc: Global, format: AnswerFormat, answer: &Answer) -> Result<Response, AllocError>
     ensures { IfOk result (λ response. said_of response ≡ answered format answer.now) }
 {
     match answer {
@@ -52,7 +56,7 @@ fn answered(alloc: Global, format: Format, answer: &Answer) -> Result<Response, 
 
 /// The response to a reply. The amounts of one account that a desk answers come to less than
 /// 6,000,000,000,000,000 cents; a list of others has no text.
-fn replied(alloc: Global, format: Format, reply: &Reply) -> Result<Response, AllocError>
+fn replied(alloc: Global, format: AnswerFormat, reply: &Reply) -> Result<Response, AllocError>
     ensures { IfOk result (λ response. said_of response ≡ replied format reply.now) }
 {
     if !is_bounded(reply) {

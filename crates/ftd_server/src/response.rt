@@ -4,14 +4,15 @@ ghost use Rattle.std.specs.Prelude.{◌≡◌, Some, IfOk, map};
 ghost use Rattle.ftd_answers.specs.Fields.{member_of, object_of};
 ghost use Rattle.ftd_ports.specs.Writing.{Writes};
 ghost use Rattle.ftd_server.specs.Responses.{said_of, bare, json, formatted, list_content};
-ghost use Rattle.ftd_server.specs.Responses.{content_of, other_method};
-ghost use Rattle.ftd_server.specs.Responses.{status_text, allow_line, content_line};
+ghost use Rattle.ftd_server.specs.Responses.{content_of, other_method, plain_content, style_sheet};
+ghost use Rattle.ftd_server.specs.Responses.{status_text, allow_line, content_line, security_lines};
 ghost use Rattle.ftd_server.specs.Responses.{connection_line, head_text, response_text};
 
 use ftd_answers::{Format, ListFormat, Value, write_object};
 use ftd_http::Status;
+use ftd_pages::STYLE;
 use ftd_ports::{Port, Target, WriteFault, write_all, write_pieces};
-use ftd_verbs::Method;
+use ftd_verbs::{AnswerFormat, Method};
 use itoa::Buffer;
 use std::alloc::{AllocError, Global};
 
@@ -28,6 +29,10 @@ pub enum Content {
     Csv,
     /// A calendar.
     Calendar,
+    /// A page of HTML.
+    Page,
+    /// The style sheet of the pages.
+    StyleSheet,
 }
 
 /// A response.
@@ -90,9 +95,9 @@ fn list_content(format: ListFormat) -> Content
     }
 }
 
-/// What a body in a format is.
-fn content_of(format: Format) -> Content
-    ensures { result ≡ content_of format }
+/// What a body with no page around it is.
+fn plain_content(format: Format) -> Content
+    ensures { result ≡ plain_content format }
 {
     match format {
         Format::List(format) => list_content(format),
@@ -100,8 +105,18 @@ fn content_of(format: Format) -> Content
     }
 }
 
+/// What a body in a format is.
+fn content_of(format: AnswerFormat) -> Content
+    ensures { result ≡ content_of format }
+{
+    match format {
+        AnswerFormat::Plain(format) => plain_content(format),
+        AnswerFormat::Page => Content::Page,
+    }
+}
+
 /// A response with the text of a report in a format.
-pub fn report_response(format: Format, body: Vec<u8>) -> Response
+pub fn report_response(format: AnswerFormat, body: Vec<u8>) -> Response
     ensures { said_of result ≡ formatted format body.items }
 {
     Response {
@@ -110,6 +125,18 @@ pub fn report_response(format: Format, body: Vec<u8>) -> Response
         content: content_of(format),
         body,
     }
+}
+
+/// The response with the style sheet of the pages.
+pub fn style_response(alloc: Global) -> Result<Response, AllocError>
+    ensures { IfOk result (λ response. said_of response ≡ style_sheet) }
+{
+    Ok(Response {
+        status: Status::Okay,
+        allow: None,
+        content: Content::StyleSheet,
+        body: Vec::from_slice(alloc, STYLE.as_bytes())?,
+    })
 }
 
 /// The text of an object of JSON with these fields.
@@ -184,6 +211,7 @@ fn write_head<W: Target>(
             b"\r\n",
             allow_line(response.allow),
             content_line(response.content),
+            security_lines(response.content),
             b"Content-Length: ",
             length.format(response.body.len() as u64).as_bytes(),
             b"\r\n",
@@ -234,6 +262,34 @@ fn content_line(content: Content) -> &'static [u8]
         Content::Text => b"Content-Type: text/plain\r\n",
         Content::Csv => b"Content-Type: text/csv\r\n",
         Content::Calendar => b"Content-Type: text/calendar\r\n",
+        Content::Page => b"Content-Type: text/html; charset=utf-8\r\n",
+        Content::StyleSheet => b"Content-Type: text/css; charset=utf-8\r\n",
+    }
+}
+
+/// The security headers of a page. It loads the server's style sheet and nothing else; its forms
+/// are sent to this server alone; no other page shows it in a frame; its links have no other base.
+/// Its type is not guessed, its address is not sent to other pages, and no copy of it is kept.
+const SECURITY_LINES: &[u8] = b"\
+    Content-Security-Policy: default-src 'none'; style-src 'self'; form-action 'self'; \
+    frame-ancestors 'none'; base-uri 'none'\r\n\
+    X-Content-Type-Options: nosniff\r\n\
+    Referrer-Policy: no-referrer\r\n\
+    Cache-Control: no-store\r\n";
+
+/// The lines with the security headers of a page.
+#[tactic(auto, unfolding(crate::specs::Responses::page_security))]
+fn security_lines(content: Content) -> &'static [u8]
+    ensures { result.now ≡ security_lines content }
+{
+    match content {
+        Content::Page => SECURITY_LINES,
+        Content::Nothing
+        | Content::Json
+        | Content::Text
+        | Content::Csv
+        | Content::Calendar
+        | Content::StyleSheet => b"",
     }
 }
 

@@ -10,6 +10,6 @@ mod verbs;
 
 pub use crate::field::{Field, FieldFault, Kind};
 pub use crate::fields::Fields;
-pub use crate::formats::Formats;
+pub use crate::formats::{AnswerFormat, Formats, JSON, TEXT};
 pub use crate::rows::{Method, Part, Row, VERBS, Verb};
 pub use crate::verbs::{last_asked, read_request};

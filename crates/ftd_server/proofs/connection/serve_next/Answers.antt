@@ -64,36 +64,39 @@ returns-in-Err-answer g c =
     (reads g.M.Machine.goes _ _ _ _ _ _ _ _ _ _ talk c.in-Ok.ensures.reads) broken.1 broken.2
     (fails_so c.in-Err-answer.cause _ _ c.in-Err-answer.ensures.fault))
 
-pub returns-then-parts : goal.returns-then-parts
-returns-then-parts g c =
+pub returns-then-ends : goal.returns-then-ends
+returns-then-ends g c =
     let found = rw c.in-Whole.is at c.in-Ok.ensures.next in
     let (message, at) = found.0 in
     let done = c.in-Ok-answer.ensures.ok message (rw c.deref.ensures.value at) in
-    rw c.ended-then-parts.ensures (λ start first said talk.
+    let ends = c.in-Ok-answer.ensures.ends message (rw c.deref.ensures.value at) in
+    rw c.ended-then-ends.ensures (λ start first said talk.
     ends_asked g.M.Machine.goes _ _ _ _ _ _ _ _ _ _ _ c.in-Whole.parts message done.0
-    (reads g.M.Machine.goes _ _ _ _ _ _ _ _ _ _ talk c.in-Ok.ensures.reads) at done.1 done.2
-    c.if-parts.true)
+    c.in-Ok-answer.ends (reads g.M.Machine.goes _ _ _ _ _ _ _ _ _ _ talk c.in-Ok.ensures.reads) at
+    done.1 done.2 ends c.if-ends.true)
 
 pub returns-then-answered : goal.returns-then-answered
 returns-then-answered g c =
     let found = rw c.in-Whole.is at c.in-Ok.ensures.next in
     let (message, at) = found.0 in
     let done = c.in-Ok-answer.ensures.ok message (rw c.deref.ensures.value at) in
+    let ends = c.in-Ok-answer.ensures.ends message (rw c.deref.ensures.value at) in
     rw c.ended-then-answered.ensures (λ start first said talk.
     ends_limit g.M.Machine.goes _ _ _ _ _ _ _ _ _ _ _ c.in-Whole.parts message done.0
-    (reads g.M.Machine.goes _ _ _ _ _ _ _ _ _ _ talk c.in-Ok.ensures.reads) at done.1 done.2
-    c.if-parts.false (omega arith))
+    c.in-Ok-answer.ends (reads g.M.Machine.goes _ _ _ _ _ _ _ _ _ _ talk c.in-Ok.ensures.reads) at
+    done.1 done.2 ends c.if-ends.false (omega arith))
 
 pub returns : goal.returns
 returns g c =
     let found = rw c.in-Whole.is at c.in-Ok.ensures.next in
     let (message, at) = found.0 in
     let done = c.in-Ok-answer.ensures.ok message (rw c.deref.ensures.value at) in
+    let ends = c.in-Ok-answer.ensures.ends message (rw c.deref.ensures.value at) in
     let few : c.args.answered < 99 = omega arith in (
       few,
       λ start first said talk.
           rw c.drop_front.ensures (goes_on g.M.Machine.goes _ _ _ _ _ _ _ _ _ _ c.in-Whole.parts
-          message done.0
+          message done.0 c.in-Ok-answer.ends
           (reads g.M.Machine.goes _ _ _ _ _ _ _ _ _ _ talk c.in-Ok.ensures.reads) at done.1 done.2
-          c.if-parts.false few),
+          ends c.if-ends.false few),
     )
