@@ -7,7 +7,7 @@ use Rattle.std.specs.Prelude.{IfOk, OnErr}
 use Rattle.std.specs.Str.{IsUtf8, is_utf8}
 use Rattle.sqlite.specs.Store as store
 use Rattle.ftd_desk.specs.declared.desk.Desk.{Desk}
-use Rattle.ftd_program.specs.declared.shell.Shell.{Shell}
+use Rattle.ftd_shell.specs.declared.shell.Shell.{Shell}
 use Rattle.ftd_http.specs.declared.ask.Inquiry.{Inquiry}
 use Rattle.ftd_http.specs.declared.ask.Inquiry.TheVariants as asked
 use Rattle.ftd_http.specs.declared.status.Status.TheVariants as status

@@ -6,10 +6,10 @@ use Rattle.sqlite.specs.Store as store
 use Rattle.ftd_ports.specs.Ports.{has_failed}
 use Rattle.ftd_ports.specs.declared.port.Port.{Port}
 use Rattle.ftd_desk.specs.declared.desk.Desk.{Desk}
-use Rattle.ftd_program.specs.Scripts.{AnswersScript}
-use Rattle.ftd_program.specs.Shells.{Ways, said_by, said_in}
+use Rattle.ftd_shell.specs.Scripts.{AnswersScript}
+use Rattle.ftd_shell.specs.Shells.{Ways, said_by, said_in}
 use Rattle.ftd_program.specs.declared.performing.JobEnd.{JobEnd}
-use Rattle.ftd_program.specs.declared.shell.Shell.{Shell}
+use Rattle.ftd_shell.specs.declared.shell.Shell.{Shell}
 use Rattle.ftd_http.specs.declared.ask.Inquiry.{Inquiry}
 use Rattle.ftd_http.specs.declared.ask.Inquiry.TheVariants as asked
 use Rattle.ftd_server.specs.Replying.{Responds as RespondsByRequests}

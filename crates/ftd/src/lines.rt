@@ -5,7 +5,7 @@ ghost use Rattle.std.specs.Prelude.{ℕ, Bool, List, None, Option};
 use crate::beginning::{Beginning, of_job};
 use ftd_cli::{Line, Piece, Task, command_words, decide_today, next_piece, read_line};
 use ftd_files::{ProgramFault, SystemClock, unread_text};
-use ftd_program::{Script, Unread};
+use ftd_shell::{Script, Unread};
 use std::alloc::AllocError;
 use std::io::BufRead;
 

@@ -5,7 +5,7 @@ use crate::shell::Around;
 use ftd_cli::ServeTask;
 use ftd_files::{ProgramFault, close_files, desk_of, is_new, open_with_short_log, tell_made};
 use ftd_ports::Port;
-use ftd_program::Shell;
+use ftd_shell::Shell;
 use ftd_server::{Limits, announce, serve_on};
 use sqlite::{Alter, Connection, FileStore};
 use sqlite_disk::Disk;

@@ -13,7 +13,7 @@ use ftd_files::{
     tell_made,
 };
 use ftd_ports::{Port, write_all};
-use ftd_program::{Inputs, Script, Shell, Shows, Unread};
+use ftd_shell::{Inputs, Script, Shell, Shows, Unread};
 use sqlite::FileStore;
 use sqlite_disk::Disk;
 use std::fs::File;

@@ -27,9 +27,3 @@ mod PrintedDays
 mod ReadBack
 mod Reread
 mod Imported
-mod Scripted
-mod Listing
-mod Telling
-mod Turning
-mod ReadLines
-mod UnderstoodLines

@@ -22,11 +22,6 @@ pub mod Journals
 pub mod Doing
 pub mod PlainLines
 pub mod RecordNotes
-pub mod Shells
-pub mod Listed
-pub mod Understanding
-pub mod Scripts
-pub mod ListedLines
 pub mod Summaries
 pub use Rattle.ftd_cli.specs.Table
 pub use Rattle.ftd_csv.specs.Answers

@@ -23,7 +23,7 @@ fn asked_then(request: Request, answer: &Answer) -> Option<Request>
 }
 
 /// Puts what is said of an answer, with the desk of this file.
-pub(crate) fn put_note<E: Target>(db: &str, answer: &Answer, err: &mut E)
+pub fn put_note<E: Target>(db: &str, answer: &Answer, err: &mut E)
     ensures { PutsNote E.taken E.failed err.old err.new db.now answer.now }
 {
     match answer {

@@ -395,7 +395,7 @@ fn print_cause<O, E: Target>(
 }
 
 /// Prints a line on standard error, and answers the status.
-pub(crate) fn print_line<O, E: Target>(status: u8, line: &[u8], out: O, err: E) -> JobEnd<O, E>
+pub fn print_line<O, E: Target>(status: u8, line: &[u8], out: O, err: E) -> JobEnd<O, E>
     ensures status { result.status ≡ status }
     ensures out { result.out ≡ out }
     ensures line { IsPut (E.taken err) (E.taken result.err) (E.failed result.err) line.now }
@@ -415,7 +415,7 @@ fn put_below<E: Target>(db: &str, request: &Request, reply: &Reply, err: &mut E)
 }
 
 /// Prints the text of a reply, in a format where it is a list, and what is said below it.
-pub(crate) fn print_reply<O: Target, E: Target>(
+pub fn print_reply<O: Target, E: Target>(
     db: &str,
     format: AnswerFormat,
     request: &Request,
@@ -443,7 +443,7 @@ pub(crate) fn print_reply<O: Target, E: Target>(
 }
 
 /// Says that standard output failed.
-pub(crate) fn fail_output<O, E: Target>(out: O, err: E) -> JobEnd<O, E>
+pub fn fail_output<O, E: Target>(out: O, err: E) -> JobEnd<O, E>
     ensures status { result.status ≡ 3 }
     ensures out { result.out ≡ out }
     ensures line { IsPut (E.taken err) (E.taken result.err) (E.failed result.err)
@@ -453,7 +453,7 @@ pub(crate) fn fail_output<O, E: Target>(out: O, err: E) -> JobEnd<O, E>
 }
 
 /// Prints the line of the refusal of a request, and its hints.
-pub(crate) fn print_refusal<O: Target, E: Target>(
+pub fn print_refusal<O: Target, E: Target>(
     db: &str,
     request: &Request,
     refusal: &Refusal,

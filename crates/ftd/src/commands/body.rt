@@ -3,7 +3,7 @@
 ghost use Rattle.std.specs.Prelude.{Some, ℕ, Bool, List, Option};
 
 use ftd_cli::{Piece, next_piece};
-use ftd_program::{Script, Unread};
+use ftd_shell::{Script, Unread};
 use std::alloc::Global;
 
 /// What is told where there is no memory for a line.

@@ -1,6 +1,6 @@
 use Rattle.std.proofs.Common.{◌∙◌, ap, ℕ}
 use Rattle.std.specs.Global.{Vec}
-use Rattle.ftd_program.specs.Shells.{Ways}
+use Rattle.ftd_shell.specs.Shells.{Ways}
 use Rattle.ftd.proofs.commands.served.answer_body.Goals as goal
 
 pub returns-clause-answers : goal.returns-clause-answers

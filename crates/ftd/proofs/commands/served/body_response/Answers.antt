@@ -1,6 +1,6 @@
 use Rattle.std.proofs.Common.{◌≡◌, ◌∙◌, ap, refl, ℕ}
 use Rattle.std.specs.Global.{Vec}
-use Rattle.ftd_program.specs.Shells.{said_in}
+use Rattle.ftd_shell.specs.Shells.{said_in}
 use Rattle.ftd.specs.Written.{written_response}
 use Rattle.ftd.proofs.Responses.{at_err, if_ok}
 use Rattle.ftd.proofs.commands.served.body_response.Goals as goal

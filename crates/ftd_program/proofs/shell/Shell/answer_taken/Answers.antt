@@ -1,9 +1,0 @@
-use Rattle.std.proofs.Common.{refl}
-use Rattle.ftd_program.specs.ListedLines.{waited, went_on}
-use Rattle.ftd_program.proofs.shell.Shell.answer_taken.Goals as goal
-
-pub returns-then-waits-clause-answers : goal.returns-then-waits-clause-answers
-returns-then-waits-clause-answers g c = waited (c.waits.ensures c.if-waits.true) refl refl refl
-
-pub returns-clause-answers : goal.returns-clause-answers
-returns-clause-answers g c = went_on c.answer_after.ensures.answers

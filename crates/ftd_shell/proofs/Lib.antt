@@ -1,0 +1,6 @@
+mod Scripted
+mod Listing
+mod Telling
+mod Turning
+mod ReadLines
+mod UnderstoodLines

@@ -1,0 +1,11 @@
+pub mod Shells
+pub mod Listed
+pub mod Understanding
+pub mod Scripts
+pub mod ListedLines
+pub use Rattle.ftd_cli.specs.Lines
+pub use Rattle.ftd_desk.specs.Desks
+pub use Rattle.ftd_ports.specs.Writing
+pub use Rattle.ftd_program.specs.Doing
+pub use Rattle.ftd_program.specs.Performing
+pub use Rattle.ftd_replies.specs.Putting
