@@ -8,7 +8,7 @@ use Rattle.ftd_machine.specs.declared.facts.LiabilityByDay.{LiabilityByDay}
 use Rattle.ftd_answers.specs.Dues.{day_fields}
 use Rattle.ftd_pages.specs.Pages.{day_sum, foot_of, titled}
 use Rattle.ftd_pages.specs.Sections.{list_at}
-use Rattle.ftd_pages.specs.Rows.{Shape}
+use Rattle.ftd_pages.specs.Rows.{Shape, nowhere}
 use Rattle.ftd_pages.specs.declared.frames.Place.{Place}
 use Rattle.ftd_pages.specs.declared.rows.Class.TheVariants.{Plain}
 
@@ -18,6 +18,7 @@ day_shape account = record {
   fields = day_fields account;
   words = codes "Account" ∷ codes "Day" ∷ codes "Amount" ∷ [];
   class = λ x. Plain;
+  address = nowhere;
 }
 
 abbrev pub days_title : List ℕ → ℕ → List ℕ

@@ -1,6 +1,8 @@
 -- What is due: over all accounts, and in an account's due list.
-use Rattle.std.specs.Prelude.{ℕ, List, [], ◌∷◌, ◌++◌, codes}
+use Rattle.std.specs.Prelude.{ℕ, List, [], ◌∷◌, ◌++◌, codes, Option, None, Some}
+use Rattle.std.specs.Prelude.{if◌then◌else◌}
 use Rattle.std.specs.List.{sum_by}
+use Rattle.std.specs.Str.{bytes_eq}
 use Rattle.ftd_days.specs.Text.{day_text, quarter_text}
 use Rattle.ftd_rules.specs.Verdicts.{amount_of}
 use Rattle.ftd_rules.specs.declared.verdict.DueRow.{DueRow}
@@ -11,6 +13,7 @@ use Rattle.ftd_machine.specs.declared.facts.OwedList.{OwedList}
 use Rattle.ftd_machine.specs.declared.lists.AgendaRow.{AgendaRow}
 use Rattle.ftd_answers.specs.Agendas.{left_cents}
 use Rattle.ftd_answers.specs.Dues.{agenda_fields, due_fields}
+use Rattle.ftd_pages.specs.Links.{account_address, reason_address}
 use Rattle.ftd_pages.specs.Pages.{due_sums, foot_of, left_sum, titled}
 use Rattle.ftd_pages.specs.Rows.{Shape}
 use Rattle.ftd_pages.specs.Sections.{list_at}
@@ -30,12 +33,21 @@ agenda_words =
     codes "Due" ∷ codes "Account" ∷ codes "Form"
     ∷ (deposit_words ++ (codes "Pay by" ∷ codes "Verdict" ∷ []))
 
+-- the account leads to its page, and the first day of the deposit period to why the obligation is so
+abbrev pub agenda_address : AgendaRow → List ℕ → Option (List ℕ)
+agenda_address x name =
+    if bytes_eq name (codes "account") then Some (account_address x.account)
+    else if bytes_eq name (codes "first") then Some (reason_address x.account
+    x.row.obligation.first)
+    else None
+
 -- the fields of CSV and JSON, and the verdict as the class of a row
 abbrev pub agenda_shape : Shape AgendaRow
 agenda_shape = record {
   fields = agenda_fields;
   words = agenda_words;
   class = λ x. Stands x.row.verdict;
+  address = agenda_address;
 }
 
 abbrev pub owed_title : ℕ → ℕ → List ℕ
@@ -71,11 +83,17 @@ due_words =
     codes "Due" ∷ codes "Account"
     ∷ (deposit_words ++ (codes "Make up by" ∷ codes "Verdict" ∷ []))
 
+-- the first day of the deposit period leads to why the obligation is so
+abbrev pub due_address : List ℕ → DueRow → List ℕ → Option (List ℕ)
+due_address account x name =
+    if bytes_eq name (codes "first") then Some (reason_address account x.obligation.first) else None
+
 abbrev pub due_shape : List ℕ → Shape DueRow
 due_shape account = record {
   fields = due_fields account;
   words = due_words;
   class = λ x. Stands x.verdict;
+  address = due_address account;
 }
 
 abbrev pub due_title : List ℕ → ℕ → ℕ → List ℕ

@@ -13,7 +13,7 @@ use Rattle.ftd_answers.specs.ExplanationForms.{counted_fields, payday_fields}
 use Rattle.ftd_answers.specs.Fields.{as_cents, as_day, as_text, both}
 use Rattle.ftd_pages.specs.Kept.{payment_shape}
 use Rattle.ftd_pages.specs.Pages.{none_of, page_of, titled}
-use Rattle.ftd_pages.specs.Rows.{Shape}
+use Rattle.ftd_pages.specs.Rows.{Shape, nowhere}
 use Rattle.ftd_pages.specs.Schedules.{schedule_part}
 use Rattle.ftd_pages.specs.Sections.{none_in_section, one_row, page_heading}
 use Rattle.ftd_pages.specs.Sections.{section_heading, section_of}
@@ -22,6 +22,7 @@ use Rattle.ftd_pages.specs.Statements.{statement_of}
 use Rattle.ftd_pages.specs.declared.frames.Frame.{Frame}
 use Rattle.ftd_pages.specs.declared.frames.Place.{Place}
 use Rattle.ftd_pages.specs.declared.frames.Place.TheVariants.{Alone, Section}
+use Rattle.ftd_pages.specs.declared.frames.Ways.TheVariants.{Nowhere}
 use Rattle.ftd_pages.specs.declared.rows.Class.TheVariants.{Plain}
 
 -- ---- what a page shows of the rows: the fields of JSON, each with a word
@@ -36,6 +37,7 @@ obligation_shape = record {
   words = codes "Deposit period from" ∷ codes "Deposit period to" ∷ codes "Rule"
       ∷ codes "Amount" ∷ codes "Due" ∷ [];
   class = λ x. Plain;
+  address = nowhere;
 }
 
 abbrev pub payday_shape : Shape RunningSum
@@ -43,6 +45,7 @@ payday_shape = record {
   fields = payday_fields;
   words = codes "Payday" ∷ codes "Liability" ∷ codes "Total so far" ∷ [];
   class = λ x. Plain;
+  address = nowhere;
 }
 
 abbrev pub counted_shape : Shape CountedDay
@@ -50,6 +53,7 @@ counted_shape = record {
   fields = counted_fields;
   words = codes "Day" ∷ codes "Kind of day" ∷ [];
   class = λ x. Plain;
+  address = nowhere;
 }
 
 -- ---- the parts, each with the rule in words
@@ -61,12 +65,12 @@ obligation_part x =
 
 unfoldable pub paydays_part : List RunningSum → List ℕ
 paydays_part paydays =
-    section_of payday_shape (titled (codes "Paydays" ∷ [])) (codes "There are none.") [] paydays
+    section_of Nowhere payday_shape (titled (codes "Paydays" ∷ [])) (codes "There are none.") [] paydays
     ++ statement_of payday_rule
 
 unfoldable pub days_part : List CountedDay → List ℕ
 days_part days =
-    section_of counted_shape (titled (codes "Days counted to the due date" ∷ []))
+    section_of Nowhere counted_shape (titled (codes "Days counted to the due date" ∷ []))
     (codes "There are none.") [] days
     ++ statement_of business_day_rule
 
@@ -78,7 +82,7 @@ return_part day =
 
 unfoldable pub payments_part : List ℕ → List KeptPayment → List ℕ
 payments_part account payments =
-    section_of (payment_shape account) (titled (codes "Payments" ∷ [])) (codes "There are none.")
+    section_of Nowhere (payment_shape account) (titled (codes "Payments" ∷ [])) (codes "There are none.")
     [] payments
 
 -- ---- the page
@@ -123,5 +127,5 @@ explained_section account title (Some e) = found_section account title e
 -- at its place
 abbrev pub explanation_at : Place → ExplainedDay → List ℕ
 explanation_at (Alone frame) x = explanation_page frame x
-explanation_at Section x =
+explanation_at (Section ways) x =
     explained_section x.account (explanation_title x.account x.day) x.found

@@ -1,9 +1,12 @@
 -- What is told, as a page, and several answers on one page.
-use Rattle.std.specs.Prelude.{ℕ, List, [], ◌∷◌, ◌++◌, codes}
+use Rattle.std.specs.Prelude.{ℕ, List, [], ◌∷◌, ◌++◌, Ok, codes}
 use Rattle.std.specs.List.{flat_map}
+use Rattle.ftd_machine.specs.Checks.{Answer}
 use Rattle.ftd_machine.specs.declared.facts.Facts.{Facts}
 use Rattle.ftd_machine.specs.declared.facts.Facts.TheVariants.{Status, Explained, Due, Days}
 use Rattle.ftd_machine.specs.declared.facts.Facts.TheVariants.{Agenda, Owed, Unapplied, Kept}
+use Rattle.ftd_machine.specs.declared.replies.Reply.TheVariants.{Told}
+use Rattle.ftd_pages.specs.Accounts.{account_ways}
 use Rattle.ftd_pages.specs.Days.{days_at}
 use Rattle.ftd_pages.specs.Dues.{agenda_at, due_at, owed_at}
 use Rattle.ftd_pages.specs.Explanations.{explanation_at}
@@ -15,6 +18,7 @@ use Rattle.ftd_pages.specs.Unapplied.{unapplied_at}
 use Rattle.ftd_pages.specs.declared.frames.Frame.{Frame}
 use Rattle.ftd_pages.specs.declared.frames.Place.{Place}
 use Rattle.ftd_pages.specs.declared.frames.Place.TheVariants.{Alone, Section}
+use Rattle.ftd_pages.specs.declared.frames.Ways.{Ways}
 
 -- what is told at its place: as a page of its own, or as a section
 abbrev pub facts_at : Place → Facts → List ℕ
@@ -30,17 +34,20 @@ facts_at place (Kept rows) = kept_at place rows
 abbrev pub facts_page : Frame → Facts → List ℕ
 facts_page frame facts = facts_at (Alone frame) facts
 
-abbrev pub section_of_facts : Facts → List ℕ
-section_of_facts facts = facts_at Section facts
+-- a section for an answer that tells something, and none for any other
+abbrev pub section_of_answer : Ways → Answer → List ℕ
+section_of_answer ways (Ok (Told facts)) = facts_at (Section ways) facts
+section_of_answer ways other = []
 
 -- ---- several answers on one page
 
--- a heading, and a section for each of them
-unfoldable pub answers_of : List ℕ → List Facts → List ℕ
-answers_of title answers = page_heading title ++ flat_map section_of_facts answers
+-- a heading, the links to the lists of the account, and a section for each of them
+unfoldable pub answers_of : Ways → List ℕ → List ℕ → List Answer → List ℕ
+answers_of ways account title answers =
+    page_heading title ++ (account_ways ways account ++ flat_map (section_of_answer ways) answers)
 
 -- the page of an account
-abbrev pub account_page : Frame → List ℕ → List Facts → List ℕ
+abbrev pub account_page : Frame → List ℕ → List Answer → List ℕ
 account_page frame account answers =
     let title = titled (codes "Account " ∷ account ∷ []) in
-    page_of frame title (answers_of title answers)
+    page_of frame title (answers_of frame.ways account title answers)

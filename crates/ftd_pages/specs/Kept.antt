@@ -1,6 +1,8 @@
 -- What is kept.
-use Rattle.std.specs.Prelude.{ℕ, Bool, true, false, List, [], ◌∷◌, codes}
+use Rattle.std.specs.Prelude.{ℕ, Bool, true, false, List, [], ◌∷◌, codes, Option, None}
+use Rattle.std.specs.Prelude.{if◌then◌else◌, option_map}
 use Rattle.std.specs.Fmt.{decimal}
+use Rattle.std.specs.Str.{bytes_eq}
 use Rattle.ftd_days.specs.Text.{quarter_text}
 use Rattle.ftd_machine.specs.declared.kept.KeptAccount.{KeptAccount}
 use Rattle.ftd_machine.specs.declared.kept.KeptHoliday.{KeptHoliday}
@@ -12,8 +14,9 @@ use Rattle.ftd_machine.specs.declared.kept.KeptRows.{KeptRows}
 use Rattle.ftd_machine.specs.declared.kept.KeptRows.TheVariants as rows
 use Rattle.ftd_answers.specs.KeptForms.{account_fields, holiday_fields, payment_fields, run_fields}
 use Rattle.ftd_answers.specs.KeptForms.{total_fields, year_fields}
+use Rattle.ftd_pages.specs.Links.{reason_address, to_account}
 use Rattle.ftd_pages.specs.Pages.{titled}
-use Rattle.ftd_pages.specs.Rows.{Shape}
+use Rattle.ftd_pages.specs.Rows.{Shape, nowhere}
 use Rattle.ftd_pages.specs.Sections.{list_at}
 use Rattle.ftd_pages.specs.declared.frames.Place.{Place}
 use Rattle.ftd_pages.specs.declared.rows.Class.{Class}
@@ -26,11 +29,13 @@ class_if false = Plain
 
 -- ---- what a page shows of the rows: the fields of JSON, each with a word
 
+-- the account leads to its page
 abbrev pub account_shape : Shape KeptAccount
 account_shape = record {
   fields = account_fields;
   words = codes "Account" ∷ codes "First day" ∷ codes "Carried" ∷ codes "Form" ∷ [];
   class = λ x. Plain;
+  address = λ x. to_account x.name;
 }
 
 abbrev pub year_shape : List ℕ → Shape KeptYear
@@ -39,6 +44,7 @@ year_shape account = record {
   words = codes "Account" ∷ codes "Year" ∷ codes "Lookback total" ∷ codes "Opens as"
       ∷ codes "Carried" ∷ codes "Turned on" ∷ codes "Lookback total first reported" ∷ [];
   class = λ x. Plain;
+  address = nowhere;
 }
 
 abbrev pub total_shape : List ℕ → Shape KeptTotal
@@ -46,6 +52,7 @@ total_shape account = record {
   fields = total_fields account;
   words = codes "Account" ∷ codes "Period" ∷ codes "Amount" ∷ codes "First reported" ∷ [];
   class = λ x. Plain;
+  address = nowhere;
 }
 
 abbrev pub holiday_shape : Shape KeptHoliday
@@ -53,6 +60,7 @@ holiday_shape = record {
   fields = holiday_fields;
   words = codes "Day" ∷ codes "Added" ∷ codes "Holiday" ∷ [];
   class = λ x. Plain;
+  address = nowhere;
 }
 
 abbrev pub run_shape : List ℕ → Shape KeptRun
@@ -61,7 +69,14 @@ run_shape account = record {
   words = codes "Account" ∷ codes "Run" ∷ codes "Payday" ∷ codes "Income tax"
       ∷ codes "Social security" ∷ codes "Medicare" ∷ codes "Void" ∷ [];
   class = λ x. class_if x.voided;
+  address = nowhere;
 }
+
+-- the obligation that a payment counts for leads to why it is so
+abbrev pub payment_address : List ℕ → KeptPayment → List ℕ → Option (List ℕ)
+payment_address account x name =
+    if bytes_eq name (codes "obligation") then option_map (reason_address account) x.obligation
+    else None
 
 abbrev pub payment_shape : List ℕ → Shape KeptPayment
 payment_shape account = record {
@@ -69,6 +84,7 @@ payment_shape account = record {
   words = codes "Account" ∷ codes "Payment" ∷ codes "Paid on" ∷ codes "For" ∷ codes "Amount"
       ∷ codes "Counts for" ∷ codes "Void" ∷ [];
   class = λ x. class_if x.voided;
+  address = payment_address account;
 }
 
 -- ---- the lists, each at its place

@@ -1,4 +1,5 @@
 pub mod Escapes
+pub mod Links
 pub mod Rows
 pub mod Pages
 pub mod Dues
@@ -9,6 +10,7 @@ pub mod Statements
 pub mod Sections
 pub mod Schedules
 pub mod Explanations
+pub mod Accounts
 pub mod Facts
 pub mod Formats
 pub mod FormWords

@@ -1,5 +1,5 @@
 -- A page, and a list in it.
-use Rattle.std.specs.Prelude.{ℕ, List, [], ◌∷◌, ◌++◌, codes}
+use Rattle.std.specs.Prelude.{ℕ, List, [], ◌∷◌, ◌++◌, codes, None}
 use Rattle.std.specs.List.{concat, flat_map}
 use Rattle.ftd_days.specs.Text.{cents_text, day_text}
 use Rattle.ftd_pages.specs.Escapes.{escaped}
@@ -63,17 +63,17 @@ page_of frame title part = page_start frame title ++ (part ++ page_end)
 abbrev pub left_sum : ℕ → List ℕ
 left_sum left =
     codes "<th scope=\"row\" colspan=\"8\">Left to pay</th>"
-    ++ (cell (codes "left") (cents_text left) ++ codes "<td colspan=\"2\"></td>")
+    ++ (cell (codes "left") None (cents_text left) ++ codes "<td colspan=\"2\"></td>")
 
 abbrev pub due_sums : ℕ → ℕ → List ℕ
 due_sums amount left =
-    codes "<th scope=\"row\" colspan=\"5\">Total</th>" ++ (cell (codes "amount") (cents_text amount)
-    ++ (codes "<td></td>" ++ (cell (codes "left") (cents_text left)
+    codes "<th scope=\"row\" colspan=\"5\">Total</th>" ++ (cell (codes "amount") None (cents_text amount)
+    ++ (codes "<td></td>" ++ (cell (codes "left") None (cents_text left)
     ++ codes "<td colspan=\"2\"></td>")))
 
 abbrev pub day_sum : ℕ → List ℕ
 day_sum amount =
-    codes "<th scope=\"row\" colspan=\"2\">Total</th>" ++ cell (codes "amount") (cents_text amount)
+    codes "<th scope=\"row\" colspan=\"2\">Total</th>" ++ cell (codes "amount") None (cents_text amount)
 
 -- a foot with these cells, and none where there is no sum
 unfoldable pub foot_of : List ℕ → List ℕ
@@ -96,8 +96,8 @@ unfoldable pub none_of : List ℕ → List ℕ → List ℕ
 none_of title sentence =
     codes "<h1>" ++ (title ++ (codes "</h1>\n<p>" ++ (escaped sentence ++ codes "</p>\n")))
 
--- a list: the table of its rows, or the sentence
-abbrev pub list_of : {T : Type 0} → Shape T → List ℕ → List ℕ → List ℕ → List T → List ℕ
-list_of shape title sentence foot [] = none_of title sentence
-list_of shape title sentence foot (x ∷ rows) =
-    table_of title (header_for shape x) (flat_map (body_for shape) (x ∷ rows)) foot
+-- a list on a page that has these ways: the table of its rows, or the sentence
+abbrev pub list_of : {T : Type 0} → Ways → Shape T → List ℕ → List ℕ → List ℕ → List T → List ℕ
+list_of ways shape title sentence foot [] = none_of title sentence
+list_of ways shape title sentence foot (x ∷ rows) =
+    table_of title (header_for shape x) (flat_map (body_for ways shape) (x ∷ rows)) foot

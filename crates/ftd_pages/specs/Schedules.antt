@@ -6,7 +6,7 @@ use Rattle.ftd_answers.specs.Explanations.{reason_name, turn_of}
 use Rattle.ftd_answers.specs.Fields.{as_day, as_text, both, or_none}
 use Rattle.ftd_answers.specs.Listings.{kind_name}
 use Rattle.ftd_pages.specs.Pages.{page_of, titled}
-use Rattle.ftd_pages.specs.Rows.{Shape}
+use Rattle.ftd_pages.specs.Rows.{Shape, nowhere}
 use Rattle.ftd_pages.specs.Sections.{one_row}
 use Rattle.ftd_pages.specs.Statements.{reason_stated, statement_of}
 use Rattle.ftd_pages.specs.declared.frames.Frame.{Frame}
@@ -23,6 +23,7 @@ schedule_shape = record {
       ∷ both (codes "turn") (λ x. or_none as_day (turn_of x.reason)) ∷ [];
   words = codes "Day" ∷ codes "Schedule" ∷ codes "Reason" ∷ codes "Turned on" ∷ [];
   class = λ x. Plain;
+  address = nowhere;
 }
 
 -- the schedule, and the rule by which the account has it
@@ -40,4 +41,4 @@ schedule_page frame x =
 -- at its place
 abbrev pub schedule_at : Place → DaySchedule → List ℕ
 schedule_at (Alone frame) x = schedule_page frame x
-schedule_at Section x = schedule_part (schedule_title x.day) x
+schedule_at (Section ways) x = schedule_part (schedule_title x.day) x

@@ -6,6 +6,8 @@ use Rattle.ftd_pages.specs.Pages.{list_of, page_of, table_of}
 use Rattle.ftd_pages.specs.Rows.{Shape, body_for, header_for}
 use Rattle.ftd_pages.specs.declared.frames.Place.{Place}
 use Rattle.ftd_pages.specs.declared.frames.Place.TheVariants.{Alone, Section}
+use Rattle.ftd_pages.specs.declared.frames.Ways.{Ways}
+use Rattle.ftd_pages.specs.declared.frames.Ways.TheVariants.{Nowhere}
 
 -- the heading of the page, and that of a section
 unfoldable pub page_heading : List ℕ → List ℕ
@@ -19,18 +21,20 @@ unfoldable pub none_in_section : List ℕ → List ℕ → List ℕ
 none_in_section title sentence =
     section_heading title ++ (codes "<p>" ++ (escaped sentence ++ codes "</p>\n"))
 
--- a list: the table of its rows, or the sentence
-abbrev pub section_of : {T : Type 0} → Shape T → List ℕ → List ℕ → List ℕ → List T → List ℕ
-section_of shape title sentence foot [] = none_in_section title sentence
-section_of shape title sentence foot (x ∷ rows) =
-    table_of title (header_for shape x) (flat_map (body_for shape) (x ∷ rows)) foot
+-- a list on a page that has these ways: the table of its rows, or the sentence
+abbrev pub section_of : {T : Type 0} → Ways → Shape T → List ℕ → List ℕ → List ℕ → List T
+    → List ℕ
+section_of ways shape title sentence foot [] = none_in_section title sentence
+section_of ways shape title sentence foot (x ∷ rows) =
+    table_of title (header_for shape x) (flat_map (body_for ways shape) (x ∷ rows)) foot
 
 -- a list at its place: on a page of its own, or in a section
 abbrev pub list_at : {T : Type 0} → Place → Shape T → List ℕ → List ℕ → List ℕ → List T → List ℕ
 list_at (Alone frame) shape title sentence foot rows =
-    page_of frame title (list_of shape title sentence foot rows)
-list_at Section shape title sentence foot rows = section_of shape title sentence foot rows
+    page_of frame title (list_of frame.ways shape title sentence foot rows)
+list_at (Section ways) shape title sentence foot rows =
+    section_of ways shape title sentence foot rows
 
--- a row alone, as a section
+-- a row alone, as a section; its cells lead nowhere
 abbrev pub one_row : {T : Type 0} → Shape T → List ℕ → T → List ℕ
-one_row shape title x = section_of shape title [] [] (x ∷ [])
+one_row shape title x = section_of Nowhere shape title [] [] (x ∷ [])

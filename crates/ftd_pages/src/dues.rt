@@ -11,8 +11,10 @@ use crate::columns::{
 };
 use crate::feet::Foot;
 use crate::frames::Place;
+use crate::links::Way::{Nowhere, Obligation};
+use crate::links::{to_account, to_reason};
 use crate::pages::Page;
-use crate::rows::{Class, PageRow, Part, write_fields};
+use crate::rows::{Class, PageRow, Part, write_linked_fields};
 use crate::sections::write_list_at;
 use ftd_answers::{RowAmount, Value, left_of, total};
 use ftd_days::Cents;
@@ -61,21 +63,26 @@ impl PageRow for AgendaRow {
         part: Part,
         target: &mut W,
     ) -> Result<(), WriteFault> {
+        let name = self.account.as_str();
         let obligation = self.row.obligation;
         let fields = [
-            (DUE, Value::Day(obligation.due)),
-            (ACCOUNT, Value::Text(self.account.as_str())),
-            (FORM, Value::Form(self.form)),
-            (FIRST, Value::Day(obligation.first)),
-            (LAST, Value::Day(obligation.last)),
-            (RULE, Value::Rule(obligation.rule)),
-            (AMOUNT, Value::Amount(obligation.cents)),
-            (PAID, Value::Amount(self.row.paid)),
-            (LEFT, Value::Amount(left_of(&self.row))),
-            (PAY_BY, Value::Day(self.pay_by)),
-            (VERDICT, Value::Verdict(self.row.verdict)),
+            (DUE, Value::Day(obligation.due), Nowhere),
+            (ACCOUNT, Value::Text(name), to_account(name)),
+            (FORM, Value::Form(self.form), Nowhere),
+            (
+                FIRST,
+                Value::Day(obligation.first),
+                to_reason(name, obligation.first),
+            ),
+            (LAST, Value::Day(obligation.last), Nowhere),
+            (RULE, Value::Rule(obligation.rule), Nowhere),
+            (AMOUNT, Value::Amount(obligation.cents), Nowhere),
+            (PAID, Value::Amount(self.row.paid), Nowhere),
+            (LEFT, Value::Amount(left_of(&self.row)), Nowhere),
+            (PAY_BY, Value::Day(self.pay_by), Nowhere),
+            (VERDICT, Value::Verdict(self.row.verdict), Nowhere),
         ];
-        write_fields(part, Class::Stands(self.row.verdict), &fields, target)
+        write_linked_fields(part, Class::Stands(self.row.verdict), &fields, target)
     }
 }
 
@@ -90,18 +97,22 @@ impl PageRow for DueRow {
     ) -> Result<(), WriteFault> {
         let obligation = self.obligation;
         let fields = [
-            (DUE, Value::Day(obligation.due)),
-            (ACCOUNT, Value::Text(account)),
-            (FIRST, Value::Day(obligation.first)),
-            (LAST, Value::Day(obligation.last)),
-            (RULE, Value::Rule(obligation.rule)),
-            (AMOUNT, Value::Amount(obligation.cents)),
-            (PAID, Value::Amount(self.paid)),
-            (LEFT, Value::Amount(left_of(self))),
-            (MAKEUP, Value::Day(self.makeup)),
-            (VERDICT, Value::Verdict(self.verdict)),
+            (DUE, Value::Day(obligation.due), Nowhere),
+            (ACCOUNT, Value::Text(account), Nowhere),
+            (
+                FIRST,
+                Value::Day(obligation.first),
+                Obligation(account, obligation.first),
+            ),
+            (LAST, Value::Day(obligation.last), Nowhere),
+            (RULE, Value::Rule(obligation.rule), Nowhere),
+            (AMOUNT, Value::Amount(obligation.cents), Nowhere),
+            (PAID, Value::Amount(self.paid), Nowhere),
+            (LEFT, Value::Amount(left_of(self)), Nowhere),
+            (MAKEUP, Value::Day(self.makeup), Nowhere),
+            (VERDICT, Value::Verdict(self.verdict), Nowhere),
         ];
-        write_fields(part, Class::Stands(self.verdict), &fields, target)
+        write_linked_fields(part, Class::Stands(self.verdict), &fields, target)
     }
 }
 

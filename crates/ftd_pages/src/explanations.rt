@@ -14,7 +14,7 @@ use crate::columns::{
     AMOUNT, DAY, DUE, FIRST, KIND_OF_DAY, LAST, LIABILITY, OF_PAYDAY, RULE, TOTAL,
 };
 use crate::feet::Foot;
-use crate::frames::{Frame, Place};
+use crate::frames::{Frame, Place, Ways};
 use crate::pages::{Page, write_end, write_none, write_start};
 use crate::rows::{Class, PageRow, Part, write_fields};
 use crate::schedules::write_schedule_part;
@@ -97,7 +97,7 @@ fn write_obligation<W: Target>(o: &Obligation, target: &mut W) -> Result<(), Wri
         account: "",
         foot: Foot::Nothing,
     };
-    write_section(&list, &[*o], target)?;
+    write_section(Ways::Nowhere, &list, &[*o], target)?;
     write_statement(&rule_statement(o.rule), target)
 }
 
@@ -112,7 +112,7 @@ fn write_paydays<W: Target>(paydays: &[RunningSum], target: &mut W) -> Result<()
         account: "",
         foot: Foot::Nothing,
     };
-    write_section(&list, paydays, target)?;
+    write_section(Ways::Nowhere, &list, paydays, target)?;
     write_statement(&PAYDAY_RULE, target)
 }
 
@@ -127,7 +127,7 @@ fn write_days<W: Target>(days: &[CountedDay], target: &mut W) -> Result<(), Writ
         account: "",
         foot: Foot::Nothing,
     };
-    write_section(&list, days, target)?;
+    write_section(Ways::Nowhere, &list, days, target)?;
     write_statement(&BUSINESS_DAY_RULE, target)
 }
 
@@ -161,7 +161,7 @@ fn write_payments<W: Target>(
         account,
         foot: Foot::Nothing,
     };
-    write_section(&list, payments, target)
+    write_section(Ways::Nowhere, &list, payments, target)
 }
 
 /// Writes what explains an obligation of the account, part after part.
@@ -286,6 +286,6 @@ pub fn write_explanation<W: Target>(
     ];
     match place {
         Place::Alone(frame) => write_explanation_page(frame, &title, explained, target),
-        Place::Section => write_explained_section(account, &title, &explained.found, target),
+        Place::Section(_) => write_explained_section(account, &title, &explained.found, target),
     }
 }

@@ -3,31 +3,38 @@
 ghost use Rattle.std.specs.List.{flat_map};
 ghost use Rattle.ftd_ports.specs.Writing.{Writes};
 ghost use Rattle.ftd_pages.specs.Facts.{account_page, answers_of, facts_at, facts_page};
-ghost use Rattle.ftd_pages.specs.Facts.{section_of_facts};
+ghost use Rattle.ftd_pages.specs.Facts.{section_of_answer};
 ghost use Rattle.ftd_pages.specs.Private.Cells.{shown};
 
+use crate::accounts::write_account_ways;
 use crate::days::write_days;
 use crate::dues::{write_agenda, write_due, write_owed};
 use crate::explanations::write_explanation;
-use crate::frames::{Frame, Place};
+use crate::frames::{Frame, Place, Ways};
 use crate::kept::write_kept;
 use crate::pages::{write_end, write_start};
 use crate::schedules::write_schedule;
 use crate::sections::write_page_heading;
 use crate::unapplied::write_unapplied;
 use ftd_answers::{RowFormat, Value, write_rows};
-use ftd_machine::Facts;
+use ftd_machine::{Answer, Facts, Reply};
 use ftd_ports::{Target, WriteFault};
 
-/// Answers, a section each.
+/// Answers: a section for each that tells something.
 #[derive(Drop)]
-struct Sections;
+struct Sections {
+    /// The ways of the page.
+    ways: Ways,
+}
 
-impl RowFormat<Facts> for Sections {
-    ghost row_text = { λ sections facts. section_of_facts facts };
+impl RowFormat<Answer> for Sections {
+    ghost row_text = { λ sections answer. section_of_answer sections.ways answer };
 
-    fn write_row<W: Target>(&self, row: &Facts, target: &mut W) -> Result<(), WriteFault> {
-        write_facts_at(&Place::Section, row, target)
+    fn write_row<W: Target>(&self, row: &Answer, target: &mut W) -> Result<(), WriteFault> {
+        match row {
+            Ok(Reply::Told(facts)) => write_facts_at(&Place::Section(self.ways), facts, target),
+            Ok(Reply::Done | Reply::Already | Reply::Posted(_)) | Err(_) => Ok(()),
+        }
     }
 }
 
@@ -65,27 +72,31 @@ pub fn write_facts_page<W: Target>(
     write_facts_at(&alone, facts, target)
 }
 
-/// Writes the heading of a page, and answers, one after the other.
+/// Writes the heading of the page of an account, the links to its lists, and answers, one after the
+/// other.
 #[tactic(auto, using(ftd_ports::proofs::WritingFacts::written_in_parts), unfolding(crate::specs::Facts::answers_of))]
 fn write_answers<W: Target>(
+    frame: &Frame,
+    account: &str,
     title: &[Value<'_>],
-    answers: &[Facts],
+    answers: &[Answer],
     target: &mut W,
 ) -> Result<(), WriteFault>
     ensures { Writes result (W.taken target.old) (W.taken target.new)
-        (W.failed target.new) (answers_of (flat_map shown title.now) answers.now) }
+        (W.failed target.new) (answers_of frame.now.ways account.now (flat_map shown title.now) answers.now) }
 {
     write_page_heading(title, target)?;
-    write_rows(&Sections, answers, target)
+    write_account_ways(frame.ways, account, target)?;
+    write_rows(&Sections { ways: frame.ways }, answers, target)
 }
 
 /// Writes the page of an account: what is told of it, one answer after the other, each as a section
-/// that shows what its own page shows. It takes no memory but what the target takes. Where the
+/// that shows what its own page shows. An answer that tells nothing has no section. It takes no memory but what the target takes. Where the
 /// target fails, a prefix of the page was written, and it fails nowhere else.
 pub fn write_account_page<W: Target>(
     frame: &Frame,
     account: &str,
-    answers: &[Facts],
+    answers: &[Answer],
     target: &mut W,
 ) -> Result<(), WriteFault>
     ensures { Writes result (W.taken target.old) (W.taken target.new)
@@ -93,6 +104,6 @@ pub fn write_account_page<W: Target>(
 {
     let title = [Value::Text("Account "), Value::Text(account)];
     write_start(frame, &title, target)?;
-    write_answers(&title, answers, target)?;
+    write_answers(frame, account, &title, answers, target)?;
     write_end(target)
 }

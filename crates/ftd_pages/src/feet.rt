@@ -4,6 +4,7 @@ ghost use Rattle.ftd_ports.specs.Writing.{Writes};
 ghost use Rattle.ftd_pages.specs.Pages.{day_sum, due_sums, foot_of, foot_text, left_sum};
 
 use crate::columns::{AMOUNT, LEFT};
+use crate::links::Way;
 use crate::rows::write_cell;
 use ftd_answers::Value;
 use ftd_ports::{Target, WriteFault, write_all};
@@ -27,7 +28,7 @@ fn write_left_sum<W: Target>(left: u128, target: &mut W) -> Result<(), WriteFaul
         (W.failed target.new) (left_sum left) }
 {
     write_all(target, b"<th scope=\"row\" colspan=\"8\">Left to pay</th>")?;
-    write_cell(&LEFT, &Value::Sum(left), target)?;
+    write_cell(&LEFT, &Value::Sum(left), &Way::Nowhere, target)?;
     write_all(target, b"<td colspan=\"2\"></td>")
 }
 
@@ -37,9 +38,9 @@ fn write_due_sums<W: Target>(amount: u128, left: u128, target: &mut W) -> Result
         (W.failed target.new) (due_sums amount left) }
 {
     write_all(target, b"<th scope=\"row\" colspan=\"5\">Total</th>")?;
-    write_cell(&AMOUNT, &Value::Sum(amount), target)?;
+    write_cell(&AMOUNT, &Value::Sum(amount), &Way::Nowhere, target)?;
     write_all(target, b"<td></td>")?;
-    write_cell(&LEFT, &Value::Sum(left), target)?;
+    write_cell(&LEFT, &Value::Sum(left), &Way::Nowhere, target)?;
     write_all(target, b"<td colspan=\"2\"></td>")
 }
 
@@ -49,7 +50,7 @@ fn write_day_sum<W: Target>(amount: u128, target: &mut W) -> Result<(), WriteFau
         (W.failed target.new) (day_sum amount) }
 {
     write_all(target, b"<th scope=\"row\" colspan=\"2\">Total</th>")?;
-    write_cell(&AMOUNT, &Value::Sum(amount), target)
+    write_cell(&AMOUNT, &Value::Sum(amount), &Way::Nowhere, target)
 }
 
 /// Writes a foot with what is left to pay of obligations of all accounts.

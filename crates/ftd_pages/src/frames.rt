@@ -46,8 +46,8 @@ pub enum Ways {
 pub enum Place {
     /// On a page of its own.
     Alone(Frame),
-    /// In a section of a page that tells several things.
-    Section,
+    /// In a section of a page that tells several things and has these ways.
+    Section(Ways),
 }
 
 /// Writes a style sheet within a page.

@@ -1,17 +1,22 @@
 //! The rows of what is kept.
 
-ghost use Rattle.std.specs.Prelude.{◌≡◌};
+ghost use Rattle.std.specs.Prelude.{◌≡◌, option_map};
 ghost use Rattle.ftd_ports.specs.Writing.{Writes};
 ghost use Rattle.ftd_pages.specs.Kept.{account_shape, class_if, holiday_shape, payment_shape};
 ghost use Rattle.ftd_pages.specs.Kept.{run_shape, total_shape, year_shape};
+ghost use Rattle.ftd_pages.specs.Links.{reason_address};
+ghost use Rattle.ftd_pages.specs.Private.Cells.{address_of};
 
 use crate::columns::{
     ACCOUNT, ADDED, AMOUNT, CARRIED, DAY, FIRST_LOOKBACK, FIRST_REPORTED, FIT, FOR_DAY, FORM,
     HOLIDAY, LOOKBACK, MEDICARE, OBLIGATION, OF_QUARTER, OF_YEAR, OPENING, PAID_ON, PAYDAY,
     PAYMENT, RUN, SS, START, TURNED, VOID, YEAR,
 };
-use crate::rows::{Class, PageRow, Part, write_fields};
+use crate::links::Way::{self, Nowhere, Obligation};
+use crate::links::to_account;
+use crate::rows::{Class, PageRow, Part, write_fields, write_linked_fields};
 use ftd_answers::Value;
+use ftd_days::Day;
 use ftd_machine::{
     KeptAccount, KeptHoliday, KeptPayment, KeptRun, KeptTotal, KeptYear, ReturnPeriod,
 };
@@ -24,6 +29,16 @@ fn class_if(voided: bool) -> Class
     if voided { Class::Void } else { Class::Plain }
 }
 
+/// The way to the obligation of an account that begins on a day, if there is one.
+fn way_to<'a>(account: &'a str, obligation: Option<Day>) -> Way<'a>
+    ensures { address_of result ≡ option_map (reason_address account.now) obligation }
+{
+    match obligation {
+        None => Nowhere,
+        Some(first) => Obligation(account, first),
+    }
+}
+
 impl PageRow for KeptAccount {
     ghost shape = { λ account. account_shape };
 
@@ -33,13 +48,14 @@ impl PageRow for KeptAccount {
         part: Part,
         target: &mut W,
     ) -> Result<(), WriteFault> {
+        let name = self.name.as_str();
         let fields = [
-            (ACCOUNT, Value::Text(self.name.as_str())),
-            (START, Value::Day(self.account.start)),
-            (CARRIED, Value::Flag(self.account.carried)),
-            (FORM, Value::Form(self.account.form)),
+            (ACCOUNT, Value::Text(name), to_account(name)),
+            (START, Value::Day(self.account.start), Nowhere),
+            (CARRIED, Value::Flag(self.account.carried), Nowhere),
+            (FORM, Value::Form(self.account.form), Nowhere),
         ];
-        write_fields(part, Class::Plain, &fields, target)
+        write_linked_fields(part, Class::Plain, &fields, target)
     }
 }
 
@@ -147,14 +163,18 @@ impl PageRow for KeptPayment {
         target: &mut W,
     ) -> Result<(), WriteFault> {
         let fields = [
-            (ACCOUNT, Value::Text(account)),
-            (PAYMENT, Value::Number(self.number)),
-            (PAID_ON, Value::Day(self.payment.paid)),
-            (FOR_DAY, Value::Day(self.payment.for_day)),
-            (AMOUNT, Value::Amount(self.payment.cents)),
-            (OBLIGATION, Value::DayOrNone(self.obligation)),
-            (VOID, Value::Flag(self.voided)),
+            (ACCOUNT, Value::Text(account), Nowhere),
+            (PAYMENT, Value::Number(self.number), Nowhere),
+            (PAID_ON, Value::Day(self.payment.paid), Nowhere),
+            (FOR_DAY, Value::Day(self.payment.for_day), Nowhere),
+            (AMOUNT, Value::Amount(self.payment.cents), Nowhere),
+            (
+                OBLIGATION,
+                Value::DayOrNone(self.obligation),
+                way_to(account, self.obligation),
+            ),
+            (VOID, Value::Flag(self.voided), Nowhere),
         ];
-        write_fields(part, class_if(self.voided), &fields, target)
+        write_linked_fields(part, class_if(self.voided), &fields, target)
     }
 }

@@ -2,6 +2,7 @@
 //! have, and a rule in words where it explains.
 #![tactic(auto)]
 
+mod accounts;
 mod columns;
 mod controls;
 mod days;
@@ -16,6 +17,7 @@ mod forms;
 mod frames;
 mod kept;
 mod kept_rows;
+mod links;
 mod pages;
 mod rows;
 mod schedules;

@@ -9,7 +9,7 @@ ghost use Rattle.ftd_pages.specs.Rows.{body_for, header_for};
 
 use crate::escapes::{Values, write_escaped};
 use crate::feet::{Foot, write_foot};
-use crate::frames::{Frame, write_style, write_ways};
+use crate::frames::{Frame, Ways, write_style, write_ways};
 use crate::rows::{BodyRows, PageRow, Part};
 use ftd_answers::{Value, write_rows};
 use ftd_ports::{Target, WriteFault, write_all};
@@ -57,8 +57,10 @@ pub fn write_start<W: Target>(
     write_all(target, b"<main>\n")
 }
 
-/// Writes a table of rows, with the heads of the columns as the first row names them.
+/// Writes a table of rows on a page that has these ways, with the heads of the columns as the first
+/// row names them.
 pub fn write_table<T: PageRow, W: Target>(
+    ways: Ways,
     page: &Page<'_>,
     first: &T,
     rows: &[T],
@@ -67,11 +69,12 @@ pub fn write_table<T: PageRow, W: Target>(
     ensures { Writes result (W.taken target.old) (W.taken target.new) (W.failed target.new)
         (table_of (flat_map shown page.now.title.now)
         (header_for (T.shape page.now.account.now) first.now)
-        (flat_map (body_for (T.shape page.now.account.now)) rows.now)
+        (flat_map (body_for ways (T.shape page.now.account.now)) rows.now)
         (foot_text page.now.foot)) }
 {
     let body = BodyRows {
         account: page.account,
+        ways,
     };
     write_all(target, b"<table>\n<caption>")?;
     write_title(page.title, target)?;
@@ -100,19 +103,21 @@ pub fn write_none<W: Target>(
     write_all(target, b"</p>\n")
 }
 
-/// Writes a list: the table of its rows, or the sentence where it has none.
+/// Writes a list on a page that has these ways: the table of its rows, or the sentence where it has
+/// none.
 fn write_list<T: PageRow, W: Target>(
+    ways: Ways,
     page: &Page<'_>,
     rows: &[T],
     target: &mut W,
 ) -> Result<(), WriteFault>
     ensures { Writes result (W.taken target.old) (W.taken target.new) (W.failed target.new)
-        (list_of (T.shape page.now.account.now) (flat_map shown page.now.title.now)
+        (list_of ways (T.shape page.now.account.now) (flat_map shown page.now.title.now)
         page.now.sentence.now (foot_text page.now.foot) rows.now) }
 {
     match rows.split_first() {
         None => write_none(page.title, page.sentence, target),
-        Some((first, _)) => write_table(page, first, rows, target),
+        Some((first, _)) => write_table(ways, page, first, rows, target),
     }
 }
 
@@ -134,10 +139,10 @@ pub fn write_page<T: PageRow, W: Target>(
 ) -> Result<(), WriteFault>
     ensures { Writes result (W.taken target.old) (W.taken target.new) (W.failed target.new)
         (page_of frame.now (flat_map shown page.now.title.now)
-        (list_of (T.shape page.now.account.now) (flat_map shown page.now.title.now)
+        (list_of frame.now.ways (T.shape page.now.account.now) (flat_map shown page.now.title.now)
         page.now.sentence.now (foot_text page.now.foot) rows.now)) }
 {
     write_start(frame, page.title, target)?;
-    write_list(page, rows, target)?;
+    write_list(frame.ways, page, rows, target)?;
     write_end(target)
 }

@@ -8,7 +8,7 @@ ghost use Rattle.ftd_pages.specs.Schedules.{schedule_at, schedule_part, schedule
 
 use crate::columns::{DAY, KIND, REASON, TURN};
 use crate::feet::Foot;
-use crate::frames::{Frame, Place};
+use crate::frames::{Frame, Place, Ways};
 use crate::pages::{Page, write_end, write_start};
 use crate::rows::{Class, PageRow, Part, write_fields};
 use crate::sections::write_section;
@@ -53,7 +53,7 @@ pub fn write_schedule_part<W: Target>(
         account: "",
         foot: Foot::Nothing,
     };
-    write_section(&list, &[*schedule], target)?;
+    write_section(Ways::Nowhere, &list, &[*schedule], target)?;
     write_statement(&reason_statement(schedule.kind, schedule.reason), target)
 }
 
@@ -90,6 +90,6 @@ pub fn write_schedule<W: Target>(
     ];
     match place {
         Place::Alone(frame) => write_schedule_page(frame, &title, schedule, target),
-        Place::Section => write_schedule_part(&title, schedule, target),
+        Place::Section(_) => write_schedule_part(&title, schedule, target),
     }
 }

@@ -9,7 +9,7 @@ ghost use Rattle.ftd_pages.specs.Sections.{list_at, none_in_section, page_headin
 ghost use Rattle.ftd_pages.specs.Sections.{section_heading, section_of};
 
 use crate::escapes::write_escaped;
-use crate::frames::Place;
+use crate::frames::{Place, Ways};
 use crate::pages::{Page, write_page, write_table, write_title};
 use crate::rows::PageRow;
 use ftd_answers::Value;
@@ -56,20 +56,22 @@ pub fn write_none_in_section<W: Target>(
     write_all(target, b"</p>\n")
 }
 
-/// Writes a list as a section: the table of its rows, or the sentence where it has none. Where the
-/// target fails, a prefix of that was written, and it fails nowhere else.
+/// Writes a list as a section of a page that has these ways: the table of its rows, or the sentence
+/// where it has none. Where the target fails, a prefix of that was written, and it fails nowhere
+/// else.
 pub fn write_section<T: PageRow, W: Target>(
+    ways: Ways,
     list: &Page<'_>,
     rows: &[T],
     target: &mut W,
 ) -> Result<(), WriteFault>
     ensures { Writes result (W.taken target.old) (W.taken target.new) (W.failed target.new)
-        (section_of (T.shape list.now.account.now) (flat_map shown list.now.title.now)
+        (section_of ways (T.shape list.now.account.now) (flat_map shown list.now.title.now)
         list.now.sentence.now (foot_text list.now.foot) rows.now) }
 {
     match rows.split_first() {
         None => write_none_in_section(list.title, list.sentence, target),
-        Some((first, _)) => write_table(list, first, rows, target),
+        Some((first, _)) => write_table(ways, list, first, rows, target),
     }
 }
 
@@ -88,6 +90,6 @@ pub fn write_list_at<T: PageRow, W: Target>(
 {
     match place {
         Place::Alone(frame) => write_page(frame, list, rows, target),
-        Place::Section => write_section(list, rows, target),
+        Place::Section(ways) => write_section(*ways, list, rows, target),
     }
 }

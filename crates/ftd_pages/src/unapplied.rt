@@ -8,8 +8,10 @@ ghost use Rattle.ftd_pages.specs.Unapplied.{unapplied_at, unapplied_shape};
 use crate::columns::{ACCOUNT, AMOUNT, FIRST, LAST, OVER, PAID, PAYMENT};
 use crate::feet::Foot;
 use crate::frames::Place;
+use crate::links::Way::Nowhere;
+use crate::links::to_account;
 use crate::pages::Page;
-use crate::rows::{Class, PageRow, Part, write_fields};
+use crate::rows::{Class, PageRow, Part, write_linked_fields};
 use crate::sections::write_list_at;
 use ftd_answers::Value;
 use ftd_days::Cents;
@@ -33,16 +35,17 @@ impl PageRow for UnappliedRow {
         part: Part,
         target: &mut W,
     ) -> Result<(), WriteFault> {
+        let name = self.account.as_str();
         let fields = [
-            (ACCOUNT, Value::Text(self.account.as_str())),
-            (PAYMENT, Value::NumberOrNone(self.payment)),
-            (FIRST, Value::Day(self.first)),
-            (LAST, Value::Day(self.last)),
-            (AMOUNT, Value::Amount(self.amount)),
-            (PAID, Value::Amount(self.paid)),
-            (OVER, Value::Amount(over_of(self))),
+            (ACCOUNT, Value::Text(name), to_account(name)),
+            (PAYMENT, Value::NumberOrNone(self.payment), Nowhere),
+            (FIRST, Value::Day(self.first), Nowhere),
+            (LAST, Value::Day(self.last), Nowhere),
+            (AMOUNT, Value::Amount(self.amount), Nowhere),
+            (PAID, Value::Amount(self.paid), Nowhere),
+            (OVER, Value::Amount(over_of(self)), Nowhere),
         ];
-        write_fields(part, Class::Plain, &fields, target)
+        write_linked_fields(part, Class::Plain, &fields, target)
     }
 }
 

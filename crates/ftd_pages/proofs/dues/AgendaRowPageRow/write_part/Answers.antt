@@ -1,4 +1,10 @@
 use Rattle.ftd_pages.proofs.dues.AgendaRowPageRow.write_part.Goals as goal
 
 pub returns : goal.returns
-returns g c = rw (c.as_str.ensures, c.left_of.ensures) at c.write_fields.ensures
+returns g c =
+    let account = rw c.as_str-name.ensures at c.to_account.ensures in
+    let reason = rw c.as_str-name.ensures at c.to_reason.ensures in
+    let linked = rw account at c.write_linked_fields.ensures in
+    let explained = rw reason at linked in
+    let named = rw c.as_str-name.ensures at explained in
+    rw c.left_of.ensures at named

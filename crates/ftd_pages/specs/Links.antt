@@ -1,0 +1,45 @@
+-- The links in the cells of a page.
+use Rattle.std.specs.Prelude.{ℕ, List, [], ◌∷◌, ◌++◌, codes, Option, None, Some}
+use Rattle.std.specs.Prelude.{if◌then◌else◌}
+use Rattle.std.specs.List.{flat_map}
+use Rattle.std.specs.Str.{bytes_eq}
+use Rattle.ftd_days.specs.Text.{day_text}
+use Rattle.ftd_pages.specs.Escapes.{escaped}
+use Rattle.ftd_pages.specs.declared.frames.Ways.{Ways}
+use Rattle.ftd_pages.specs.declared.frames.Ways.TheVariants.{Nowhere, From}
+
+-- an address as it stands in a page: its parts one after the other, escaped
+abbrev pub address_in_page : List (List ℕ) → List ℕ
+address_in_page parts = flat_map escaped parts
+
+-- the page of an account, and the page that tells why its obligation is so whose deposit period
+-- begins on a day
+abbrev pub account_address : List ℕ → List ℕ
+account_address account =
+    address_in_page (codes "/accounts/" ∷ account ∷ codes "/html" ∷ [])
+
+abbrev pub reason_address : List ℕ → ℕ → List ℕ
+reason_address account first =
+    address_in_page (codes "/accounts/" ∷ account ∷ codes "/explain/" ∷ day_text first
+    ∷ codes "/html" ∷ [])
+
+-- where a field of this name leads in a row whose account alone leads to its page
+abbrev pub to_account : List ℕ → List ℕ → Option (List ℕ)
+to_account account name =
+    if bytes_eq name (codes "account") then Some (account_address account) else None
+
+-- a link: a text that leads to an address
+unfoldable pub link : List ℕ → List ℕ → List ℕ
+link address text =
+    codes "<a href=\"" ++ (address ++ (codes "\">" ++ (escaped text ++ codes "</a>")))
+
+-- a text that leads to an address, or nowhere
+abbrev pub linked : Option (List ℕ) → List ℕ → List ℕ
+linked None text = escaped text
+linked (Some address) text = link address text
+
+-- where a cell leads on a page: on a page without ways, nowhere
+abbrev pub led_by : Option (List ℕ) → Ways → Option (List ℕ)
+led_by None ways = None
+led_by (Some address) Nowhere = None
+led_by (Some address) (From today until) = Some address

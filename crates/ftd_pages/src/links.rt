@@ -1,0 +1,86 @@
+//! The links in the cells of a page.
+
+ghost use Rattle.std.specs.Prelude.{◌≡◌, Some};
+ghost use Rattle.std.specs.List.{flat_map};
+ghost use Rattle.ftd_ports.specs.Writing.{Writes};
+ghost use Rattle.ftd_answers.specs.Fields.{shown_as};
+ghost use Rattle.ftd_pages.specs.Links.{account_address, link, linked, reason_address};
+ghost use Rattle.ftd_pages.specs.Private.Cells.{address_of, shown};
+
+use crate::escapes::{Values, write_shown};
+use ftd_answers::{Value, write_rows};
+use ftd_days::Day;
+use ftd_ports::{Target, WriteFault, write_all};
+
+/// Where a cell leads.
+#[derive(Clone, Copy, Debug)]
+pub enum Way<'a> {
+    /// It leads nowhere.
+    Nowhere,
+    /// To the page of an account.
+    Account(&'a str),
+    /// To why the obligation of an account is so whose deposit period begins on a day.
+    Obligation(&'a str, Day),
+}
+
+/// The way to the page of an account.
+pub fn to_account<'a>(account: &'a str) -> Way<'a>
+    ensures { address_of result ≡ Some (account_address account.now) }
+{
+    Way::Account(account)
+}
+
+/// The way to why the obligation of an account is so whose deposit period begins on a day.
+pub fn to_reason<'a>(account: &'a str, first: Day) -> Way<'a>
+    ensures { address_of result ≡ Some (reason_address account.now first) }
+{
+    Way::Obligation(account, first)
+}
+
+/// Writes a link: a value that leads to an address, whose parts are these.
+pub fn write_link<W: Target>(
+    address: &[Value<'_>],
+    value: &Value<'_>,
+    target: &mut W,
+) -> Result<(), WriteFault>
+    ensures { Writes result (W.taken target.old) (W.taken target.new) (W.failed target.new)
+        (link (flat_map shown address.now) (shown_as value.now).plain) }
+{
+    write_all(target, b"<a href=\"")?;
+    write_rows(&Values, address, target)?;
+    write_all(target, b"\">")?;
+    write_shown(value, target)?;
+    write_all(target, b"</a>")
+}
+
+/// Writes a value that leads to an address, or nowhere.
+pub fn write_linked<W: Target>(
+    way: &Way<'_>,
+    value: &Value<'_>,
+    target: &mut W,
+) -> Result<(), WriteFault>
+    ensures { Writes result (W.taken target.old) (W.taken target.new)
+        (W.failed target.new) (linked (address_of way.now) (shown_as value.now).plain) }
+{
+    match way {
+        Way::Nowhere => write_shown(value, target),
+        Way::Account(account) => {
+            let address = [
+                Value::Text("/accounts/"),
+                Value::Text(account),
+                Value::Text("/html"),
+            ];
+            write_link(&address, value, target)
+        }
+        Way::Obligation(account, first) => {
+            let address = [
+                Value::Text("/accounts/"),
+                Value::Text(account),
+                Value::Text("/explain/"),
+                Value::Day(*first),
+                Value::Text("/html"),
+            ];
+            write_link(&address, value, target)
+        }
+    }
+}
