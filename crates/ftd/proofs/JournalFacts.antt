@@ -62,7 +62,8 @@ module _ {S : Type 0} (g : store.Ghosts S) (old new : Desk S) where
       → (HasCleanDisk (held g between).db → (s : State) → StoodFor (held g old) s
       → journal_of s name ≡ None)
       → StandsAsBefore (held g old) (held g between)
-      → (new ≡ between) ⊎ ((said : Said) × Responds (handles g) between (years_asked name) said new)
+      → (new ≡ between)
+      ⊎ ((said : Said) × Responds (handles g) None between (years_asked name) said new)
       → (said : Said) × TellsOwn g old new name said
   own_lost name between knows stands (inl same) =
       (refused Memory, journals.unread Memory (inl refl) (rw same stands) refl)

@@ -1,20 +1,25 @@
 -- Responses, case by case.
-use Rattle.std.proofs.Common.{◌≡◌, ◌⊎◌, ℕ, Bool, List, Option, Result, Ok, Err, false, true, inl}
-use Rattle.std.proofs.Common.{inr, refl}
-use Rattle.std.proofs.lemmas.Bool.{cases_Bool}
+use Rattle.std.proofs.Common.{◌≡◌, ◌⊎◌, ◌∙◌, ℕ, Bool, List, Option, None, Result, Ok, Err, false}
+use Rattle.std.proofs.Common.{true, inl, inr, refl, subst}
+use Rattle.std.proofs.lemmas.Bool.{cases_Bool, true≢false}
 use Rattle.std.proofs.lemmas.Str.{IsUtf8-from_is_utf8, is_utf8-from_IsUtf8}
-use Rattle.std.specs.Prelude.{IfOk, OnErr}
+use Rattle.std.specs.Prelude.{IfOk, OnErr, if◌then◌else◌}
 use Rattle.std.specs.Str.{IsUtf8, is_utf8}
 use Rattle.sqlite.specs.Store as store
 use Rattle.ftd_desk.specs.declared.desk.Desk.{Desk}
-use Rattle.ftd_shell.specs.declared.shell.Shell.{Shell}
+use Rattle.ftd_machine.specs.Checks.{Answer}
+use Rattle.ftd_machine.specs.declared.replies.Reply.TheVariants as reply
+use Rattle.ftd_machine.specs.declared.requests.Request.{Request}
+use Rattle.ftd_verbs.specs.declared.formats.AnswerFormat.{AnswerFormat}
+use Rattle.ftd_verbs.specs.declared.formats.AnswerFormat.TheVariants.{Plain, Page}
+use Rattle.ftd_http.specs.Asking.{is_for_page, is_page}
 use Rattle.ftd_http.specs.declared.ask.Inquiry.{Inquiry}
 use Rattle.ftd_http.specs.declared.ask.Inquiry.TheVariants as asked
 use Rattle.ftd_http.specs.declared.status.Status.TheVariants as status
-use Rattle.ftd_server.specs.Replying.{Responds}
+use Rattle.ftd_server.specs.Replying.{Responds, answered}
 use Rattle.ftd_server.specs.Responses.{Said, bare, json}
 use Rattle.ftd_server.specs.Tables.{handles}
-use Rattle.ftd.specs.Commands.{Responds as ShellResponds, RespondsOver}
+use Rattle.ftd.specs.Commands.{RespondsOver}
 use Rattle.ftd.specs.Written.{written_response, written_text}
 
 -- what follows from the value of an Ok, and from an Err
@@ -51,27 +56,51 @@ pub texts : (out err : List ℕ) (exit : ℕ) → IsUtf8 out → IsUtf8 err
     → json status.Okay (written_text out err exit) ≡ written_response out err exit
 texts out err exit is also = rw (is_utf8-from_IsUtf8 out is, is_utf8-from_IsUtf8 err also) refl
 
--- what is neither commands nor a journal is answered by the desk alone
-pub by_desk : {S : Type 0} (g : store.Ghosts S) (old new : Desk S) (db : List ℕ) (what : Inquiry)
-    (body : List ℕ) (said : Said) → (what ≡ asked.Commands → ⊥)
-    → ((account : Option (List ℕ)) → what ≡ asked.Journal account → ⊥)
-    → Responds (handles g) old what said new → RespondsOver g old new db what body said
-by_desk g old new db asked.NoRoute body said other none responds = responds
-by_desk g old new db (asked.OtherMethod allow) body said other none responds = responds
-by_desk g old new db asked.BadForm body said other none responds = responds
-by_desk g old new db asked.Commands body said other none responds = absurd (other refl)
-by_desk g old new db (asked.Journal account) body said other none responds =
-    absurd (none account refl)
-by_desk g old new db asked.StyleSheet body said other none responds = responds
-by_desk g old new db (asked.Asks format request) body said other none responds = responds
+-- an answer in a format that is no page has no day
+plain : (today told : Option ℕ) (format : AnswerFormat) (answer : Answer) → is_page format ≡ false
+    → answered today format answer ≡ answered told format answer
+plain today told (Plain format) (Ok reply.Done) is_none = refl
+plain today told (Plain format) (Ok reply.Already) is_none = refl
+plain today told (Plain format) (Ok (reply.Posted difference)) is_none = refl
+plain today told (Plain format) (Ok (reply.Told facts)) is_none = refl
+plain today told (Plain format) (Err refusal) is_none = refl
+plain today told Page answer is_none = absurd (true≢false is_none)
 
--- a response of the desk that was lost is one of the shell
-pub desk_lost : {S F : Type 0} (g : store.Ghosts S) (old : Shell S F) (desk : Desk S)
-    (what : Inquiry) (body : List ℕ) → (what ≡ asked.Commands → ⊥)
+-- so the day that is told to pages alone is as good as one that is told to all
+pub on_the_day : {M : Type 0} (goes : M → Request → Answer → M → Type 0) (today told : Option ℕ)
+    (now later : M) (what : Inquiry) (said : Said)
+    → today ≡ (if is_for_page what then told else None)
+    → Responds goes today now what said later → Responds goes told now what said later
+on_the_day goes today told now later asked.NoRoute said is responds = responds
+on_the_day goes today told now later (asked.OtherMethod allow) said is responds = responds
+on_the_day goes today told now later asked.BadForm said is responds = responds
+on_the_day goes today told now later asked.Home said is responds = responds
+on_the_day goes today told now later asked.Commands said is responds = responds
+on_the_day goes today told now later (asked.Journal account) said is responds = responds
+on_the_day goes today told now later (asked.Account account) said is responds = responds
+on_the_day goes today told now later asked.StyleSheet said is responds = responds
+on_the_day goes today told now later (asked.Asks (Plain format) request) said is
+    (answer, went, so) = (answer, went, so ∙ plain today told (Plain format) answer refl)
+on_the_day goes today told now later (asked.Asks Page request) said is responds =
+    subst (λ (day : Option ℕ). Responds goes day now (asked.Asks Page request) said later) is
+    responds
+
+-- what is neither commands, nor a journal, nor the first page, nor that of an account is answered by
+-- the desk alone
+pub by_desk : {S : Type 0} (g : store.Ghosts S) (told : Option ℕ) (old new : Desk S)
+    (db : List ℕ) (what : Inquiry) (body : List ℕ) (said : Said) → (what ≡ asked.Commands → ⊥)
     → ((account : Option (List ℕ)) → what ≡ asked.Journal account → ⊥)
-    → (desk ≡ old.desk) ⊎ ((said : Said) × Responds (handles g) old.desk what said desk)
-    → ((record old { desk = desk }) ≡ old)
-    ⊎ ((said : Said) × ShellResponds g old what body said (record old { desk = desk }))
-desk_lost g old desk what body other none (inl same) = inl (rw same refl)
-desk_lost g old desk what body other none (inr (said, responds)) =
-    inr (said, (by_desk g old.desk desk _ what body said other none responds, refl))
+    → (what ≡ asked.Home → ⊥)
+    → ((account : List ℕ) → what ≡ asked.Account account → ⊥)
+    → Responds (handles g) told old what said new → RespondsOver g told old new db what body said
+by_desk g told old new db asked.NoRoute body said other none home own responds = responds
+by_desk g told old new db (asked.OtherMethod allow) body said other none home own responds = responds
+by_desk g told old new db asked.BadForm body said other none home own responds = responds
+by_desk g told old new db asked.Home body said other none home own responds = absurd (home refl)
+by_desk g told old new db asked.Commands body said other none home own responds = absurd (other refl)
+by_desk g told old new db (asked.Journal account) body said other none home own responds =
+    absurd (none account refl)
+by_desk g told old new db (asked.Account account) body said other none home own responds =
+    absurd (own account refl)
+by_desk g told old new db asked.StyleSheet body said other none home own responds = responds
+by_desk g told old new db (asked.Asks format request) body said other none home own responds = responds

@@ -1,5 +1,5 @@
 -- What the shell of a server responds to messages.
-use Rattle.std.specs.Prelude.{◌≡◌, ℕ, Bool, false, List, [], Some}
+use Rattle.std.specs.Prelude.{◌≡◌, ℕ, Bool, false, List, [], Option, Some}
 use Rattle.std.specs.Global.{Vec}
 use Rattle.std.specs.String.{string_bytes}
 use Rattle.sqlite.specs.Store as store
@@ -12,7 +12,8 @@ use Rattle.ftd_program.specs.declared.performing.JobEnd.{JobEnd}
 use Rattle.ftd_shell.specs.declared.shell.Shell.{Shell}
 use Rattle.ftd_http.specs.declared.ask.Inquiry.{Inquiry}
 use Rattle.ftd_http.specs.declared.ask.Inquiry.TheVariants as asked
-use Rattle.ftd_server.specs.Replying.{Responds as RespondsByRequests}
+use Rattle.ftd_server.specs.Accounts.{TellsAccount}
+use Rattle.ftd_server.specs.Replying.{home, Responds as RespondsByRequests}
 use Rattle.ftd_server.specs.Responses.{Said}
 use Rattle.ftd_server.specs.Tables.{handles}
 use Rattle.ftd_server.specs.Turns.{asks}
@@ -50,20 +51,27 @@ module _ {S : Type 0} (g : store.Ghosts S) where
     pub answers : AnswersBody old new db body end
     pub is : said ≡ written_response (said_in end.out) (said_in end.err) end.status
 
-  -- commands are answered by the shell, and who asks for a journal is told its lines; all else is
-  -- answered by the desk alone
-  abbrev pub RespondsOver : Desk S → Desk S → List ℕ → Inquiry → List ℕ → Said → Type 0
-  RespondsOver old new db asked.Commands body said = RespondsToBody old new db body said
-  RespondsOver old new db (asked.Journal account) body said = TellsJournal g old new account said
-  RespondsOver old new db other body said =
-      RespondsByRequests (handles g) old other said new
+  -- Commands are answered by the shell, and who asks for a journal is told its lines. The first
+  -- page leads to what is owed on the day that the clock told last, the page of an account is that
+  -- of this day, and all else is answered by the desk alone, whose pages have the ways of the day.
+  abbrev pub RespondsOver : Option ℕ → Desk S → Desk S → List ℕ → Inquiry → List ℕ → Said → Type 0
+  RespondsOver told old new db asked.Commands body said = RespondsToBody old new db body said
+  RespondsOver told old new db (asked.Journal account) body said =
+      TellsJournal g old new account said
+  RespondsOver told old new db asked.Home body said = (new ≡ old) × (said ≡ home told)
+  RespondsOver told old new db (asked.Account account) body said =
+      TellsAccount g told old new account said
+  RespondsOver told old new db other body said =
+      RespondsByRequests (handles g) told old other said new
 
   module _ {F : Type 0} where
     -- the shell before a message, what that asks, its body, the response, and the shell after it,
-    -- whose desk is in the same file
-    abbrev pub Responds : Shell S F → Inquiry → List ℕ → Said → Shell S F → Type 0
-    Responds old asked body said new =
-        RespondsOver old.desk new.desk (file_of old) asked body said × (file_of new ≡ file_of old)
+    -- whose desk is in the same file; `told` has the day that the clock told last
+    abbrev pub Responds : (F → Option ℕ) → Shell S F → Inquiry → List ℕ → Said → Shell S F
+        → Type 0
+    Responds told old asked body said new =
+        RespondsOver (told new.inputs) old.desk new.desk (file_of old) asked body said
+        × (file_of new ≡ file_of old)
 
     -- the desk is asked whether it still answers
     abbrev pub AsksDesk : Shell S F → Bool → Shell S F → Type 0

@@ -58,7 +58,7 @@ module _ {S : Type 0} (g : store.Ghosts S) where
         → (HasCleanDisk (held g between).db → (s : State) → StoodFor (held g old) s
         → journal_of s name ≡ None)
         → StandsAsBefore (held g old) (held g between)
-        → Responds (handles g) between (years_asked name) said new → TellsOwn old new name said
+        → Responds (handles g) None between (years_asked name) said new → TellsOwn old new name said
     unread : (refusal : Refusal) → IsFault (Err refusal)
         → StandsAsBefore (held g old) (held g new) → said ≡ refused refusal
         → TellsOwn old new name said

@@ -1,7 +1,7 @@
 //! The journal of the desk, or of an account, as the response to a message: its lines, as the
 //! command prints them.
 
-ghost use Rattle.std.specs.Prelude.{◌≡◌, ◌⊎◌, Err, IfErr, IfOk, OnErr};
+ghost use Rattle.std.specs.Prelude.{◌≡◌, ◌⊎◌, Err, IfErr, IfOk, None, OnErr};
 ghost use Rattle.std.specs.Option.{option_copied};
 ghost use Rattle.sqlite.specs.State.{HasCleanDisk};
 ghost use Rattle.ftd_desk.specs.Desks.{held};
@@ -95,13 +95,13 @@ fn years_response<S: Alter>(
     desk: &mut Desk<S>,
     account: &str,
 ) -> Result<Response, AllocError>
-    ensures ok { IfOk result (λ response. Responds (handles S.Store) desk.old
+    ensures ok { IfOk result (λ response. Responds (handles S.Store) None desk.old
         (years_asked account.now) (said_of response) desk.new) }
     ensures err { OnErr result ((desk.new ≡ desk.old) ⊎ ((said : Said)
-        × Responds (handles S.Store) desk.old (years_asked account.now) said desk.new)) }
+        × Responds (handles S.Store) None desk.old (years_asked account.now) said desk.new)) }
 {
     let asked = years_asked(alloc, account)?;
-    desk_response(alloc, desk, &asked)
+    desk_response(alloc, desk, None, &asked)
 }
 
 /// The response with the journal of the account of the name. Where no account has it, that is

@@ -1,14 +1,16 @@
 -- What a message asks, case by case.
-use Rattle.std.proofs.Common.{◌≡◌, ℕ, List, Bool, true, false, Option, Some, sym, ap, ◌∙◌, cond}
-use Rattle.std.proofs.Common.{inl, inr}
+use Rattle.std.proofs.Common.{◌≡◌, ℕ, List, Bool, true, false, Option, None, Some, Result, Ok, Err}
+use Rattle.std.proofs.Common.{sym, ap, ◌∙◌, cond, inl, inr}
+use Rattle.std.specs.Prelude.{IfOk}
 use Rattle.std.proofs.lemmas.Bool.{cases_Bool}
 use Rattle.std.specs.Str.{IsUtf8, is_utf8, bytes_eq}
 use Rattle.std.proofs.lemmas.Str.{IsUtf8-from_is_utf8, is_utf8-from_IsUtf8}
 use Rattle.ftd_machine.specs.declared.requests.Request.{Request}
 use Rattle.ftd_http.specs.Routes.{route_of}
 use Rattle.ftd_http.specs.Requests.{request_of}
-use Rattle.ftd_http.specs.Asking.{method_text, method_of, formed, routed, verb_asked}
+use Rattle.ftd_http.specs.Asking.{method_text, method_of, formed, routed, unrouted, verb_asked}
 use Rattle.ftd_http.specs.declared.route.Route.{Route}
+use Rattle.ftd_http.specs.declared.ask.Inquiry.{Inquiry}
 use Rattle.ftd_http.specs.declared.ask.Inquiry.TheVariants as asked
 
 -- by the test for UTF-8
@@ -27,6 +29,13 @@ pub by_route : (m t b : List ℕ) (route : Option Route) → IsUtf8 t → route 
     → routed m t b route ≡ verb_asked m t b
 by_route m t b route utf8 e = ap (routed m t b) e
     ∙ sym (by_text m t b true (is_utf8-from_IsUtf8 t utf8))
+
+-- where no verb has the target
+pub by_no_route : {E : Type 0} (result : Result Inquiry E) (m t b : List ℕ) → IsUtf8 t
+    → None ≡ route_of t → IfOk result (λ asked. asked ≡ unrouted m t)
+    → IfOk result (λ asked. asked ≡ verb_asked m t b)
+by_no_route (Ok asked) m t b utf8 none is = is ∙ by_route m t b None utf8 none
+by_no_route (Err e) m t b utf8 none is = is
 
 -- by the test for the method
 by_method : (m t b : List ℕ) (route : Route) (right : Bool)

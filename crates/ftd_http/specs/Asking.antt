@@ -31,14 +31,43 @@ formed format (Some request) = asked.Asks format request
 abbrev pub method_of : Route → Method
 method_of route = (row_of route.verb).method
 
+-- the name of the account whose page a target asks for: it is between `/accounts/` and `/html`, and
+-- not empty
+abbrev pub account_behind : List ℕ × List ℕ → Option (List ℕ)
+account_behind cut =
+    if bytes_eq cut.0 (codes "/accounts") && not (length cut.1 == 0) then Some cut.1 else None
+
+abbrev pub account_in : List ℕ → Option (List ℕ)
+account_in path = option_and_then account_behind (rsplit_once 47 path)
+
+abbrev pub page_behind : List ℕ × List ℕ → Option (List ℕ)
+page_behind cut = if bytes_eq cut.1 (codes "html") then account_in cut.0 else None
+
+abbrev pub page_name : List ℕ → Option (List ℕ)
+page_name target = option_and_then page_behind (rsplit_once 47 target)
+
+-- what a message of this method asks of that page
+abbrev pub page_asked : List ℕ → List ℕ → Inquiry
+page_asked method account =
+    if bytes_eq method (method_text Get) then asked.Account account else asked.OtherMethod Get
+
+-- what a message asks whose target is no verb's: the page of an account, or nothing
+abbrev pub page_if : List ℕ → Option (List ℕ) → Inquiry
+page_if method None = asked.NoRoute
+page_if method (Some account) = page_asked method account
+
+abbrev pub unrouted : List ℕ → List ℕ → Inquiry
+unrouted method target = page_if method (page_name target)
+
 abbrev pub routed : List ℕ → List ℕ → List ℕ → Option Route → Inquiry
-routed method target body None = asked.NoRoute
+routed method target body None = unrouted method target
 routed method target body (Some route) =
     if bytes_eq method (method_text (method_of route))
     then formed route.format (request_of route.verb target body)
     else asked.OtherMethod (method_of route)
 
--- what a message asks by the route of a verb; a target that is no UTF-8 has none
+-- what a message asks by the route of a verb, or of the page of an account; a target that is no
+-- UTF-8 has none
 unfoldable pub verb_asked : List ℕ → List ℕ → List ℕ → Inquiry
 verb_asked method target body =
     if is_utf8 target then routed method target body (route_of target) else asked.NoRoute
@@ -68,6 +97,14 @@ abbrev pub style_asked : List ℕ → Inquiry
 style_asked method =
     if bytes_eq method (method_text Get) then asked.StyleSheet else asked.OtherMethod Get
 
+-- the target of the first page, and what a message of this method asks there
+abbrev pub home_path : List ℕ
+home_path = codes "/"
+
+abbrev pub home_asked : List ℕ → Inquiry
+home_asked method =
+    if bytes_eq method (method_text Get) then asked.Home else asked.OtherMethod Get
+
 -- the name of the account whose journal a target asks for: what is behind its last slash, if that
 -- is not empty and the target of the desk's journal is before it
 abbrev pub named_by : List ℕ × List ℕ → Option (List ℕ)
@@ -89,14 +126,22 @@ asked_of method target body =
     if bytes_eq target commands_path then commands_asked method
     else if bytes_eq target journal_path then journal_asked method None
     else if bytes_eq target style_path then style_asked method
+    else if bytes_eq target home_path then home_asked method
     else named_asked method target body (journal_name target)
 
--- it asks for what a browser shows: a page, or the style sheet of the pages
+-- it asks the desk for a page
 abbrev pub is_page : AnswerFormat → Bool
 is_page (Plain format) = false
 is_page Page = true
 
+abbrev pub is_for_page : Inquiry → Bool
+is_for_page (asked.Asks format request) = is_page format
+is_for_page other = false
+
+-- it asks for what a browser shows: a page, the first one and that of an account too, or the style
+-- sheet of the pages
 abbrev pub is_for_browser : Inquiry → Bool
-is_for_browser (asked.Asks format request) = is_page format
+is_for_browser asked.Home = true
+is_for_browser (asked.Account account) = true
 is_for_browser asked.StyleSheet = true
-is_for_browser other = false
+is_for_browser other = is_for_page other

@@ -3,9 +3,12 @@
 ghost use Rattle.std.specs.Prelude.{◌≡◌, IfOk, option_map};
 ghost use Rattle.std.specs.Str.{bytes_eq};
 ghost use Rattle.ftd_http.specs.Routes.{all_routes};
-ghost use Rattle.ftd_http.specs.Asking.{asked_of, commands_asked, commands_path, formed};
-ghost use Rattle.ftd_http.specs.Asking.{is_for_browser, journal_asked, journal_name, journal_path};
-ghost use Rattle.ftd_http.specs.Asking.{method_text, named_by, style_asked, style_path, verb_asked};
+ghost use Rattle.ftd_http.specs.Asking.{account_behind, account_in, asked_of, commands_asked};
+ghost use Rattle.ftd_http.specs.Asking.{commands_path, formed, page_asked, page_behind, page_name};
+ghost use Rattle.ftd_http.specs.Asking.{unrouted};
+ghost use Rattle.ftd_http.specs.Asking.{home_asked, home_path, is_for_browser, is_for_page};
+ghost use Rattle.ftd_http.specs.Asking.{journal_asked, journal_name, journal_path, method_text};
+ghost use Rattle.ftd_http.specs.Asking.{named_by, style_asked, style_path, verb_asked};
 
 use crate::message_fields::make_request;
 use crate::route::{last_cut, look_up};
@@ -24,10 +27,14 @@ pub enum Inquiry {
     OtherMethod(Method),
     /// A part of the path, or the body, is not of the route's form.
     BadForm,
+    /// The first page of the server is to be found.
+    Home,
     /// The commands that stand in its body, one a line, are to be answered.
     Commands,
     /// The journal of the account is to be told, or that of the desk where none is named.
     Journal(Option<AccountName>),
+    /// The page of the account is to be told.
+    Account(AccountName),
     /// The style sheet of the pages is to be told.
     StyleSheet,
     /// A request to the desk. A reply that has several formats is told in this one.
@@ -38,18 +45,29 @@ pub enum Inquiry {
 }
 
 impl Inquiry {
-    /// Whether it asks for what a browser shows: a page, or the style sheet of the pages.
-    pub fn is_for_browser(&self) -> bool
-        ensures { result ≡ is_for_browser self.now }
+    /// Whether it asks the desk for a page.
+    pub fn is_for_page(&self) -> bool
+        ensures { result ≡ is_for_page self.now }
     {
         matches!(
             self,
-            Inquiry::StyleSheet
-                | Inquiry::Asks {
-                    format: AnswerFormat::Page,
-                    ..
-                }
+            Inquiry::Asks {
+                format: AnswerFormat::Page,
+                ..
+            }
         )
+    }
+
+    /// Whether it asks for what a browser shows: a page, the first one and that of an account too,
+    /// or the style sheet of the pages.
+    pub fn is_for_browser(&self) -> bool
+        ensures { result ≡ is_for_browser self.now }
+    {
+        self.is_for_page()
+            || matches!(
+                self,
+                Inquiry::Home | Inquiry::Account(_) | Inquiry::StyleSheet
+            )
     }
 }
 
@@ -86,6 +104,9 @@ pub fn what_is_asked(
     }
     if is_of_style(target) {
         return Ok(style_asked(method));
+    }
+    if is_of_home(target) {
+        return Ok(home_asked(method));
     }
     match journal_name(target) {
         Some(account) => Ok(journal_asked(method, Some(name(alloc, account)?))),
@@ -172,6 +193,24 @@ fn style_asked(method: &[u8]) -> Inquiry
     }
 }
 
+/// Whether the target is that of the first page.
+fn is_of_home(target: &[u8]) -> bool
+    ensures { result ≡ bytes_eq target.now home_path }
+{
+    target == b"/".as_slice()
+}
+
+/// What a message of this method asks whose target is that of the first page.
+fn home_asked(method: &[u8]) -> Inquiry
+    ensures { result ≡ home_asked method.now }
+{
+    if is_method(method, Method::Get) {
+        Inquiry::Home
+    } else {
+        Inquiry::OtherMethod(Method::Get)
+    }
+}
+
 /// What a message asks whose target is another.
 fn verb_asked(
     alloc: Global,
@@ -187,7 +226,7 @@ fn verb_asked(
         return Ok(Inquiry::NoRoute);
     };
     let Some(route) = look_up(router, target) else {
-        return Ok(Inquiry::NoRoute);
+        return unrouted(alloc, method, target);
     };
     let wanted = route.verb.row().method;
     if !is_method(method, wanted) {
@@ -195,6 +234,67 @@ fn verb_asked(
     }
     let request = make_request(alloc, route.verb, target, body)?;
     Ok(formed(route.format, request))
+}
+
+/// What is behind the last slash of a path, if that is not empty and the path of accounts is before
+/// it.
+fn account_behind<'t>(before: &str, account: &'t str) -> Option<&'t str>
+    ensures { option_map (λ name. name.now) result ≡ account_behind (before.now, account.now) }
+{
+    if before == "/accounts" && !account.is_empty() {
+        Some(account)
+    } else {
+        None
+    }
+}
+
+/// The name of the account that a path ends with, if it is the path of accounts before that.
+fn account_in(path: &str) -> Option<&str>
+    ensures { option_map (λ name. name.now) result ≡ account_in path.now }
+{
+    let (before, account) = last_cut(path)?;
+    account_behind(before, account)
+}
+
+/// The name of the account of a path, where the format behind it is that of a page.
+fn page_behind<'t>(path: &'t str, format: &str) -> Option<&'t str>
+    ensures { option_map (λ name. name.now) result ≡ page_behind (path.now, format.now) }
+{
+    if format == "html" {
+        account_in(path)
+    } else {
+        None
+    }
+}
+
+/// The name of the account whose page a target asks for.
+fn page_name(target: &str) -> Option<&str>
+    ensures { option_map (λ name. name.now) result ≡ page_name target.now }
+{
+    let (path, format) = last_cut(target)?;
+    page_behind(path, format)
+}
+
+/// What a message of this method asks whose target is that of the account's page.
+fn page_asked(method: &[u8], account: AccountName) -> Inquiry
+    ensures { result ≡ page_asked method.now account }
+{
+    if is_method(method, Method::Get) {
+        Inquiry::Account(account)
+    } else {
+        Inquiry::OtherMethod(Method::Get)
+    }
+}
+
+/// What a message of this method asks whose target is no verb's: the page of an account, or
+/// nothing.
+fn unrouted(alloc: Global, method: &[u8], target: &str) -> Result<Inquiry, AllocError>
+    ensures { IfOk result (λ asked. asked ≡ unrouted method.now target.now) }
+{
+    match page_name(target) {
+        Some(account) => Ok(page_asked(method, name(alloc, account)?)),
+        None => Ok(Inquiry::NoRoute),
+    }
 }
 
 /// Whether the text is this method.

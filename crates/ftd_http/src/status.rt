@@ -5,6 +5,8 @@
 pub enum Status {
     /// 200: the request was answered.
     Okay,
+    /// 303: what was asked for stands at another target.
+    SeeOther,
     /// 400: the head, or the form of the request, is at fault.
     BadRequest,
     /// 403: the message was not sent to this machine by name, or comes from a foreign page.

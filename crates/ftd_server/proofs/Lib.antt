@@ -2,3 +2,4 @@ pub mod EndFacts
 pub mod ServeFacts
 pub mod ListeningFacts
 pub mod TableFacts
+mod AccountFacts

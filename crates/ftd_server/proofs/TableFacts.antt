@@ -1,6 +1,6 @@
 -- What is said of a desk before and after each request, said of the states that it stands for.
-use Rattle.std.proofs.Common.{◌≡◌, ◌++◌, ℕ, Bool, List, length, Option, Result, Ok, Err, refl}
-use Rattle.std.proofs.Common.{◌∙◌, sym, inl, inr}
+use Rattle.std.proofs.Common.{◌≡◌, ◌++◌, ℕ, Bool, List, length, Option, None, Result, Ok, Err}
+use Rattle.std.proofs.Common.{refl, ◌∙◌, sym, inl, inr}
 use Rattle.std.proofs.lemmas.Bool.{true≢false, cases_Bool}
 use Rattle.std.specs.Prelude.{IfOk, IfErr}
 use Rattle.sqlite.specs.Store as store
@@ -81,17 +81,21 @@ module _ {S : Type 0} (g : store.Ghosts S) where
   held_same now later same = rw same refl
 
   responds : (now later : Desk S) (what : Inquiry) (said : Said)
-      → Responds (handles g) now what said later
-      → Follows (held g now) (held g later) (λ s end. Responds Goes s what said end)
+      → Responds (handles g) None now what said later
+      → Follows (held g now) (held g later) (λ s end. Responds Goes None s what said end)
   responds now later asked.NoRoute said (same, is) = same_desk _ _ _ (held_same now later same)
       (λ s. (refl, is))
   responds now later (asked.OtherMethod allow) said (same, is) =
       same_desk _ _ _ (held_same now later same) (λ s. (refl, is))
   responds now later asked.BadForm said (same, is) = same_desk _ _ _ (held_same now later same)
       (λ s. (refl, is))
+  responds now later asked.Home said (same, is) = same_desk _ _ _ (held_same now later same)
+      (λ s. (refl, is))
   responds now later asked.Commands said (same, is) = same_desk _ _ _ (held_same now later same)
       (λ s. (refl, is))
   responds now later (asked.Journal account) said (same, is) =
+      same_desk _ _ _ (held_same now later same) (λ s. (refl, is))
+  responds now later (asked.Account account) said (same, is) =
       same_desk _ _ _ (held_same now later same) (λ s. (refl, is))
   responds now later asked.StyleSheet said (same, is) =
       same_desk _ _ _ (held_same now later same) (λ s. (refl, is))
@@ -110,7 +114,7 @@ module _ {S : Type 0} (g : store.Ghosts S) where
       → Follows (held g now) (held g later) (λ s end. IsAnswer Alone before s message text end)
   one_answer before now later message text answer =
       let what = inquiry_of message in
-      weaker _ _ (λ s end. Responds Goes s what answer.said end) _
+      weaker _ _ (λ s end. Responds Goes None s what answer.said end) _
       (responds now later what answer.said answer.responds)
       (λ s end one. record { said = answer.said; responds = one; is = answer.is })
 

@@ -1,6 +1,8 @@
 pub mod Responses
 pub mod Refusals
+pub mod Ahead
 pub mod Replying
+pub mod Accounts
 pub mod Serving
 pub mod Wires
 pub mod Listening

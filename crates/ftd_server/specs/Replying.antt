@@ -1,5 +1,6 @@
 -- The response to what is asked.
-use Rattle.std.specs.Prelude.{◌≡◌, ℕ, ◌∷◌, [], List, codes, length, Ok, Err}
+use Rattle.std.specs.Prelude.{◌≡◌, ℕ, ◌∷◌, [], List, codes, length, Ok, Err, Option, Some}
+use Rattle.std.specs.Prelude.{None}
 use Rattle.ftd_days.specs.Text.{day_text}
 use Rattle.ftd_http.specs.declared.status.Status.TheVariants as status
 use Rattle.ftd_machine.specs.declared.requests.Request.{Request}
@@ -11,10 +12,13 @@ use Rattle.ftd_answers.specs.Fields.{Told, members_of, number_field, object_of, 
 use Rattle.ftd_pages.specs.Formats.{facts_as}
 use Rattle.ftd_pages.specs.declared.frames.Frame.{Frame}
 use Rattle.ftd_pages.specs.declared.frames.Style.TheVariants.{Linked}
-use Rattle.ftd_pages.specs.declared.frames.Ways.TheVariants.{Nowhere}
+use Rattle.ftd_pages.specs.declared.frames.Ways.{Ways}
+use Rattle.ftd_pages.specs.declared.frames.Ways.TheVariants.{From, Nowhere}
 use Rattle.ftd_verbs.specs.declared.formats.AnswerFormat.{AnswerFormat}
+use Rattle.ftd_server.specs.Ahead.{shown_until}
+use Rattle.ftd_server.specs.declared.home.TheConstants.{NO_CLOCK}
 use Rattle.ftd_server.specs.Responses.{Said, bare, formatted, json}
-use Rattle.ftd_server.specs.Responses.{other_method, style_sheet}
+use Rattle.ftd_server.specs.Responses.{other_method, see_owed, style_sheet, text}
 use Rattle.ftd_server.specs.Refusals.{refused}
 use Rattle.ftd_http.specs.declared.ask.Inquiry.{Inquiry}
 use Rattle.ftd_http.specs.declared.ask.Inquiry.TheVariants as asked
@@ -33,34 +37,54 @@ posted_fields d =
 abbrev pub posted : Difference → Said
 posted d = json status.Okay (object_of (members_of (posted_fields d)))
 
--- the frame of the server's pages: its style sheet is a route, and it has no ways
-abbrev pub server_frame : Frame
-server_frame = record { style = Linked; ways = Nowhere }
+-- The ways of the server's pages on the day of today, if it is known: to what is owed as of today,
+-- to what is due from today on, and to the accounts.
+abbrev pub ways_on : Option ℕ → Ways
+ways_on None = Nowhere
+ways_on (Some today) = From today (shown_until today)
 
--- the response to a reply, in a format where it has several
-abbrev pub replied : AnswerFormat → Reply → Said
-replied format reply.Done = named (codes "done")
-replied format reply.Already = named (codes "already")
-replied format (reply.Posted difference) = posted difference
-replied format (reply.Told facts) = formatted format (facts_as server_frame format facts)
+-- the frame of the server's pages: their style sheet is a route
+abbrev pub server_frame : Option ℕ → Frame
+server_frame today = record { style = Linked; ways = ways_on today }
 
-abbrev pub answered : AnswerFormat → Answer → Said
-answered format (Ok reply) = replied format reply
-answered format (Err refusal) = refused refusal
+-- the response to who asks for the first page: it leads to what is owed as of today; or today is
+-- not known, and the response says so
+abbrev pub home : Option ℕ → Said
+home None = text status.InternalServerError NO_CLOCK.now
+home (Some today) = see_owed (record { as_of = today; until = shown_until today })
 
--- The response of a machine that answers requests alone to what is asked: where no request is asked
--- of it, it stays as it is. `goes` has the machine, a request, its answer, and the machine after it.
+-- the response to a reply on the day of today, in a format where it has several
+abbrev pub replied : Option ℕ → AnswerFormat → Reply → Said
+replied today format reply.Done = named (codes "done")
+replied today format reply.Already = named (codes "already")
+replied today format (reply.Posted difference) = posted difference
+replied today format (reply.Told facts) =
+    formatted format (facts_as (server_frame today) format facts)
+
+abbrev pub answered : Option ℕ → AnswerFormat → Answer → Said
+answered today format (Ok reply) = replied today format reply
+answered today format (Err refusal) = refused refusal
+
+-- The response of a machine that answers requests alone to what is asked: where no request is
+-- asked of it, it stays as it is. `goes` has the machine, a request, its answer, and the machine
+-- after it.
 module _ {M : Type 0} (goes : M → Request → Answer → M → Type 0) where
-  abbrev pub Responds : M → Inquiry → Said → M → Type 0
-  Responds now asked.NoRoute said later = (later ≡ now) × (said ≡ bare status.NotFound)
-  Responds now (asked.OtherMethod allow) said later = (later ≡ now) × (said ≡ other_method allow)
-  Responds now asked.BadForm said later = (later ≡ now) × (said ≡ bare status.BadRequest)
-  Responds now asked.Commands said later = (later ≡ now) × (said ≡ bare status.NotFound)
-  Responds now (asked.Journal account) said later = (later ≡ now) × (said ≡ bare status.NotFound)
-  Responds now asked.StyleSheet said later = (later ≡ now) × (said ≡ style_sheet)
-  Responds now (asked.Asks format request) said later =
-      (answer : Answer) × goes now request answer later × (said ≡ answered format answer)
+  -- on the day of today, if it is known
+  abbrev pub Responds : Option ℕ → M → Inquiry → Said → M → Type 0
+  Responds today now asked.NoRoute said later = (later ≡ now) × (said ≡ bare status.NotFound)
+  Responds today now (asked.OtherMethod allow) said later =
+      (later ≡ now) × (said ≡ other_method allow)
+  Responds today now asked.BadForm said later = (later ≡ now) × (said ≡ bare status.BadRequest)
+  Responds today now asked.Home said later = (later ≡ now) × (said ≡ bare status.NotFound)
+  Responds today now asked.Commands said later = (later ≡ now) × (said ≡ bare status.NotFound)
+  Responds today now (asked.Journal account) said later =
+      (later ≡ now) × (said ≡ bare status.NotFound)
+  Responds today now (asked.Account account) said later =
+      (later ≡ now) × (said ≡ bare status.NotFound)
+  Responds today now asked.StyleSheet said later = (later ≡ now) × (said ≡ style_sheet)
+  Responds today now (asked.Asks format request) said later =
+      (answer : Answer) × goes now request answer later × (said ≡ answered today format answer)
 
-  -- the same of a message, whatever its body is
+  -- the same of a message, whatever its body is, where no day is known
   abbrev pub ByRequests : M → Inquiry → List ℕ → Said → M → Type 0
-  ByRequests now asked body said later = Responds now asked said later
+  ByRequests now asked body said later = Responds None now asked said later

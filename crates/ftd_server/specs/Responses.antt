@@ -3,6 +3,7 @@ use Rattle.std.specs.Prelude.{ℕ, ◌++◌, Bool, true, false, List, [], ◌∷
 use Rattle.std.specs.Prelude.{Some, None}
 use Rattle.std.specs.List.{concat}
 use Rattle.std.specs.Fmt.{decimal}
+use Rattle.ftd_days.specs.Text.{day_text}
 use Rattle.ftd_http.specs.declared.status.Status.{Status}
 use Rattle.ftd_http.specs.declared.status.Status.TheVariants as status
 use Rattle.ftd_answers.specs.declared.formats.Format.{Format}
@@ -16,30 +17,52 @@ use Rattle.ftd_verbs.specs.declared.rows.Method.{Method}
 use Rattle.ftd_http.specs.Asking.{method_text}
 use Rattle.ftd_server.specs.declared.response.Content.{Content}
 use Rattle.ftd_server.specs.declared.response.Content.TheVariants as content
+use Rattle.ftd_server.specs.declared.response.OwedPage.{OwedPage}
 use Rattle.ftd_server.specs.declared.response.Response.{Response}
 
--- a response: its status, the method that its route has (if the message has another), what its body
--- is, and the body
+-- a response: its status, the method that its route has (if the message has another), the page to
+-- which it leads (if it leads to one), what its body is, and the body
 pub record Said : Type 0 where
   pub status : Status
   pub allow : Option Method
+  pub location : Option OwedPage
   pub content : Content
   pub body : List ℕ
 
 abbrev pub said_of : Response → Said
-said_of r = record { status = r.status; allow = r.allow; content = r.content; body = r.body.items }
+said_of r = record {
+  status = r.status;
+  allow = r.allow;
+  location = r.location;
+  content = r.content;
+  body = r.body.items;
+}
 
 -- a response without a body
 abbrev pub bare : Status → Said
-bare status = record { status = status; allow = None; content = content.Nothing; body = [] }
+bare status = record {
+  status = status;
+  allow = None;
+  location = None;
+  content = content.Nothing;
+  body = [];
+}
 
 -- the response where the route has another method, which it names
 abbrev pub other_method : Method → Said
 other_method method = record (bare status.MethodNotAllowed) { allow = Some method }
 
+-- the response that leads to the page of what is owed
+abbrev pub see_owed : OwedPage → Said
+see_owed page = record (bare status.SeeOther) { location = Some page }
+
+-- a response with a body of plain text
+abbrev pub text : Status → List ℕ → Said
+text status body = record (bare status) { content = content.Text; body = body }
+
 -- a response with a JSON body
 abbrev pub json : Status → List ℕ → Said
-json status body = record { status = status; allow = None; content = content.Json; body = body }
+json status body = record (bare status) { content = content.Json; body = body }
 
 -- a response with the text of a report in a format
 abbrev pub list_content : ListFormat → Content
@@ -57,16 +80,11 @@ content_of Page = content.Page
 
 abbrev pub formatted : AnswerFormat → List ℕ → Said
 formatted format body =
-    record { status = status.Okay; allow = None; content = content_of format; body = body }
+    record (bare status.Okay) { content = content_of format; body = body }
 
 -- the response with the style sheet of the pages
 abbrev pub style_sheet : Said
-style_sheet = record {
-  status = status.Okay;
-  allow = None;
-  content = content.StyleSheet;
-  body = STYLE.now;
-}
+style_sheet = record (bare status.Okay) { content = content.StyleSheet; body = STYLE.now }
 
 -- the end of a line
 abbrev pub line_end : List ℕ
@@ -75,6 +93,7 @@ line_end = 13 ∷ 10 ∷ []
 -- a status and its reason
 abbrev pub status_text : Status → List ℕ
 status_text status.Okay = codes "200 OK"
+status_text status.SeeOther = codes "303 See Other"
 status_text status.BadRequest = codes "400 Bad Request"
 status_text status.Forbidden = codes "403 Forbidden"
 status_text status.NotFound = codes "404 Not Found"
@@ -89,6 +108,15 @@ status_text status.NotImplemented = codes "501 Not Implemented"
 abbrev pub allow_line : Option Method → List ℕ
 allow_line None = []
 allow_line (Some m) = codes "Allow: " ++ method_text m ++ line_end
+
+unfoldable pub owed_line : OwedPage → List ℕ
+owed_line page =
+    concat (codes "Location: /owed/" ∷ day_text page.as_of ∷ codes "/" ∷ day_text page.until
+    ∷ codes "/html" ∷ line_end ∷ [])
+
+abbrev pub location_line : Option OwedPage → List ℕ
+location_line None = []
+location_line (Some page) = owed_line page
 
 abbrev pub content_line : Content → List ℕ
 content_line content.Nothing = []
@@ -118,13 +146,22 @@ abbrev pub connection_line : Bool → List ℕ
 connection_line false = []
 connection_line true = codes "Connection: close" ++ line_end
 
--- a response to its empty line; the connection closes after it or not
-unfoldable pub head_text : Said → Bool → List ℕ
-head_text said closes = concat (
-    codes "HTTP/1.1 " ∷ status_text said.status ∷ line_end
-    ∷ allow_line said.allow ∷ content_line said.content ∷ security_lines said.content
+-- the status, and the method of the route
+unfoldable pub start_text : Said → List ℕ
+start_text said = concat (
+    codes "HTTP/1.1 " ∷ status_text said.status ∷ line_end ∷ allow_line said.allow ∷ [])
+
+-- the lines of the body, that of a connection that closes, and the empty line
+unfoldable pub fields_text : Said → Bool → List ℕ
+fields_text said closes = concat (
+    content_line said.content ∷ security_lines said.content
     ∷ codes "Content-Length: " ∷ decimal (length said.body) ∷ line_end
     ∷ connection_line closes ∷ line_end ∷ [])
+
+-- a response to its empty line; the connection closes after it or not
+unfoldable pub head_text : Said → Bool → List ℕ
+head_text said closes =
+    start_text said ++ (location_line said.location ++ fields_text said closes)
 
 -- the text of a response
 unfoldable pub response_text : Said → Bool → List ℕ

@@ -34,7 +34,7 @@ impl<S: Alter> Machine<ByTables> for Desk<S> {
         asked: &Inquiry,
         _body: &[u8],
     ) -> Result<Response, AllocError> {
-        desk_response(alloc, self, asked)
+        desk_response(alloc, self, None, asked)
     }
 
     fn still_answers(&mut self, alloc: Global) -> bool {

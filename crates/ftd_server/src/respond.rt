@@ -1,6 +1,6 @@
 //! The response to what is asked.
 
-ghost use Rattle.std.specs.Prelude.{◌≡◌, ◌⊎◌, IfOk, OnErr};
+ghost use Rattle.std.specs.Prelude.{◌≡◌, IfOk, OnErr};
 ghost use Rattle.ftd_server.specs.Refusals.{refused};
 ghost use Rattle.ftd_server.specs.Replying.{Responds, answered, named, posted, replied};
 ghost use Rattle.ftd_server.specs.Responses.{Said, said_of};
@@ -12,6 +12,7 @@ use crate::response::{
     Response, bare_response, json_response, object_text, other_method, style_response,
 };
 use ftd_answers::Value;
+use ftd_days::Day;
 use ftd_desk::Desk;
 use ftd_http::{Inquiry, Status};
 use ftd_machine::{Answer, Difference, Reply, is_bounded};
@@ -19,45 +20,59 @@ use ftd_verbs::AnswerFormat;
 use sqlite::Alter;
 use std::alloc::{AllocError, Global};
 
-/// The response of a desk to what is asked. A desk alone answers requests, and neither commands nor
-/// journals. Where there is no memory for the response, the desk may have answered.
+/// The response of a desk to what is asked, on the day of today, if it is known. A desk alone
+/// answers requests, and no commands; it tells no journals, and has no first page and none of an
+/// account. Where there is no memory for the response, the desk has answered all the same.
 pub fn desk_response<S: Alter>(
     alloc: Global,
     desk: &mut Desk<S>,
+    today: Option<Day>,
     asked: &Inquiry,
 ) -> Result<Response, AllocError>
     ensures ok { IfOk result (λ response.
-        Responds (handles S.Store) desk.old asked.now (said_of response) desk.new) }
-    ensures err { OnErr result ((desk.new ≡ desk.old)
-        ⊎ ((said : Said) × Responds (handles S.Store) desk.old asked.now said desk.new)) }
+        Responds (handles S.Store) today desk.old asked.now (said_of response) desk.new) }
+    ensures err { OnErr result
+        ((said : Said) × Responds (handles S.Store) today desk.old asked.now said desk.new) }
 {
     match asked {
         Inquiry::NoRoute => Ok(bare_response(alloc, Status::NotFound)),
         Inquiry::OtherMethod(allow) => Ok(other_method(alloc, *allow)),
         Inquiry::BadForm => Ok(bare_response(alloc, Status::BadRequest)),
-        Inquiry::Commands | Inquiry::Journal(_) => Ok(bare_response(alloc, Status::NotFound)),
+        Inquiry::Home | Inquiry::Commands | Inquiry::Journal(_) | Inquiry::Account(_) => {
+            Ok(bare_response(alloc, Status::NotFound))
+        }
         Inquiry::StyleSheet => style_response(alloc),
         Inquiry::Asks { format, request } => {
             let answer = desk.handle(request);
-            answered(alloc, *format, &answer)
+            answered(alloc, today, *format, &answer)
         }
     }
 }
 
 /// The response to an answer.
-fn answered(alloc: Global, format: AnswerFormat, answer: &Answer) -> Result<Response, AllocError>
-    ensures { IfOk result (λ response. said_of response ≡ answered format answer.now) }
+fn answered(
+    alloc: Global,
+    today: Option<Day>,
+    format: AnswerFormat,
+    answer: &Answer,
+) -> Result<Response, AllocError>
+    ensures { IfOk result (λ response. said_of response ≡ answered today format answer.now) }
 {
     match answer {
-        Ok(reply) => replied(alloc, format, reply),
+        Ok(reply) => replied(alloc, today, format, reply),
         Err(refusal) => refusal_response(alloc, refusal),
     }
 }
 
 /// The response to a reply. The amounts of one account that a desk answers come to less than
 /// 6,000,000,000,000,000 cents; a list of others has no text.
-fn replied(alloc: Global, format: AnswerFormat, reply: &Reply) -> Result<Response, AllocError>
-    ensures { IfOk result (λ response. said_of response ≡ replied format reply.now) }
+fn replied(
+    alloc: Global,
+    today: Option<Day>,
+    format: AnswerFormat,
+    reply: &Reply,
+) -> Result<Response, AllocError>
+    ensures { IfOk result (λ response. said_of response ≡ replied today format reply.now) }
 {
     if !is_bounded(reply) {
         return Err(AllocError);
@@ -66,7 +81,7 @@ fn replied(alloc: Global, format: AnswerFormat, reply: &Reply) -> Result<Respons
         Reply::Done => named(alloc, "done"),
         Reply::Already => named(alloc, "already"),
         Reply::Posted(difference) => posted(alloc, difference),
-        Reply::Told(facts) => facts_said(alloc, format, facts),
+        Reply::Told(facts) => facts_said(alloc, today, format, facts),
     }
 }
 

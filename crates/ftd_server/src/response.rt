@@ -5,10 +5,13 @@ ghost use Rattle.ftd_answers.specs.Fields.{member_of, object_of};
 ghost use Rattle.ftd_ports.specs.Writing.{Writes};
 ghost use Rattle.ftd_server.specs.Responses.{said_of, bare, json, formatted, list_content};
 ghost use Rattle.ftd_server.specs.Responses.{content_of, other_method, plain_content, style_sheet};
-ghost use Rattle.ftd_server.specs.Responses.{status_text, allow_line, content_line, security_lines};
-ghost use Rattle.ftd_server.specs.Responses.{connection_line, head_text, response_text};
+ghost use Rattle.ftd_server.specs.Responses.{status_text, allow_line, content_line, fields_text};
+ghost use Rattle.ftd_server.specs.Responses.{connection_line, head_text, location_line, owed_line};
+ghost use Rattle.ftd_server.specs.Responses.{response_text, security_lines, see_owed, start_text};
+ghost use Rattle.ftd_server.specs.Responses.{text};
 
-use ftd_answers::{Format, ListFormat, Value, write_object};
+use ftd_answers::{Format, ListFormat, Value, day_bytes, write_object};
+use ftd_days::Day;
 use ftd_http::Status;
 use ftd_pages::STYLE;
 use ftd_ports::{Port, Target, WriteFault, write_all, write_pieces};
@@ -35,6 +38,15 @@ pub enum Content {
     StyleSheet,
 }
 
+/// The page of what is owed.
+#[derive(Clone, Copy, Debug, PartialEq, Eq)]
+pub struct OwedPage {
+    /// The day as of which it is owed.
+    pub as_of: Day,
+    /// The last day on which it is due.
+    pub until: Day,
+}
+
 /// A response.
 #[derive(Drop)]
 pub struct Response {
@@ -42,6 +54,8 @@ pub struct Response {
     pub status: Status,
     /// The method that the route has, where the message has another.
     pub allow: Option<Method>,
+    /// The page to which it leads, where it leads to one.
+    pub location: Option<OwedPage>,
     /// What the body is.
     pub content: Content,
     /// The bytes of the body.
@@ -55,6 +69,7 @@ pub fn bare_response(alloc: Global, status: Status) -> Response
     Response {
         status,
         allow: None,
+        location: None,
         content: Content::Nothing,
         body: Vec::new(alloc),
     }
@@ -67,9 +82,36 @@ pub fn other_method(alloc: Global, allow: Method) -> Response
     Response {
         status: Status::MethodNotAllowed,
         allow: Some(allow),
+        location: None,
         content: Content::Nothing,
         body: Vec::new(alloc),
     }
+}
+
+/// The response that leads to the page of what is owed.
+pub fn see_owed(alloc: Global, page: OwedPage) -> Response
+    ensures { said_of result ≡ see_owed page }
+{
+    Response {
+        status: Status::SeeOther,
+        allow: None,
+        location: Some(page),
+        content: Content::Nothing,
+        body: Vec::new(alloc),
+    }
+}
+
+/// A response with a body of plain text.
+pub fn text_response(alloc: Global, status: Status, body: &str) -> Result<Response, AllocError>
+    ensures { IfOk result (λ response. said_of response ≡ text status body.now) }
+{
+    Ok(Response {
+        status,
+        allow: None,
+        location: None,
+        content: Content::Text,
+        body: Vec::from_slice(alloc, body.as_bytes())?,
+    })
 }
 
 /// A response with a JSON body.
@@ -79,6 +121,7 @@ pub fn json_response(status: Status, body: Vec<u8>) -> Response
     Response {
         status,
         allow: None,
+        location: None,
         content: Content::Json,
         body,
     }
@@ -122,6 +165,7 @@ pub fn report_response(format: AnswerFormat, body: Vec<u8>) -> Response
     Response {
         status: Status::Okay,
         allow: None,
+        location: None,
         content: content_of(format),
         body,
     }
@@ -134,6 +178,7 @@ pub fn style_response(alloc: Global) -> Result<Response, AllocError>
     Ok(Response {
         status: Status::Okay,
         allow: None,
+        location: None,
         content: Content::StyleSheet,
         body: Vec::from_slice(alloc, STYLE.as_bytes())?,
     })
@@ -193,7 +238,7 @@ fn write_parts<W: Target>(
 }
 
 /// Writes all of a response but its body.
-#[tactic(auto, unfolding(crate::specs::Responses::head_text))]
+#[tactic(auto, using(ftd_ports::proofs::WritingFacts::written_in_parts), unfolding(crate::specs::Responses::head_text))]
 fn write_head<W: Target>(
     target: &mut W,
     response: &Response,
@@ -202,7 +247,17 @@ fn write_head<W: Target>(
     ensures { Writes result (W.taken target.old) (W.taken target.new)
         (W.failed target.new) (head_text (said_of response.now) closes) }
 {
-    let mut length = Buffer::new();
+    write_start(target, response)?;
+    write_location(target, response.location)?;
+    write_fields(target, response, closes)
+}
+
+/// Writes the status of a response, and the method of the route, if it names that.
+#[tactic(auto, unfolding(crate::specs::Responses::start_text))]
+fn write_start<W: Target>(target: &mut W, response: &Response) -> Result<(), WriteFault>
+    ensures { Writes result (W.taken target.old) (W.taken target.new)
+        (W.failed target.new) (start_text (said_of response.now)) }
+{
     write_pieces(
         target,
         &[
@@ -210,6 +265,45 @@ fn write_head<W: Target>(
             status_text(response.status),
             b"\r\n",
             allow_line(response.allow),
+        ],
+    )
+}
+
+/// Writes the line with the page to which a response leads, if it leads to one.
+fn write_location<W: Target>(target: &mut W, location: Option<OwedPage>) -> Result<(), WriteFault>
+    ensures { Writes result (W.taken target.old) (W.taken target.new)
+        (W.failed target.new) (location_line location) }
+{
+    match location {
+        None => Ok(()),
+        Some(page) => write_owed(target, page),
+    }
+}
+
+/// Writes the line with the page of what is owed.
+fn write_owed<W: Target>(target: &mut W, page: OwedPage) -> Result<(), WriteFault>
+    ensures { Writes result (W.taken target.old) (W.taken target.new)
+        (W.failed target.new) (owed_line page) }
+{
+    let (as_of, until) = (day_bytes(page.as_of), day_bytes(page.until));
+    let pieces: [&[u8]; 5] = [b"Location: /owed/", &as_of, b"/", &until, b"/html\r\n"];
+    write_pieces(target, &pieces)
+}
+
+/// Writes the lines of the body, that of a connection that closes, and the empty line.
+#[tactic(auto, unfolding(crate::specs::Responses::fields_text))]
+fn write_fields<W: Target>(
+    target: &mut W,
+    response: &Response,
+    closes: bool,
+) -> Result<(), WriteFault>
+    ensures { Writes result (W.taken target.old) (W.taken target.new)
+        (W.failed target.new) (fields_text (said_of response.now) closes) }
+{
+    let mut length = Buffer::new();
+    write_pieces(
+        target,
+        &[
             content_line(response.content),
             security_lines(response.content),
             b"Content-Length: ",
@@ -227,6 +321,7 @@ fn status_text(status: Status) -> &'static [u8]
 {
     match status {
         Status::Okay => b"200 OK",
+        Status::SeeOther => b"303 See Other",
         Status::BadRequest => b"400 Bad Request",
         Status::Forbidden => b"403 Forbidden",
         Status::NotFound => b"404 Not Found",

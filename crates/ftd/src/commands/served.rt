@@ -1,7 +1,8 @@
 //! The shell of a server.
 
-ghost use Rattle.std.specs.Prelude.{◌≡◌, IfOk, OnErr};
+ghost use Rattle.std.specs.Prelude.{◌≡◌, IfOk, OnErr, None, if◌then◌else◌};
 ghost use Rattle.std.specs.String.{string_bytes};
+ghost use Rattle.ftd_http.specs.Asking.{is_for_page};
 ghost use Rattle.ftd_server.specs.Responses.{Said, said_of};
 ghost use Rattle.ftd.specs.Commands.{AnswersBody, RespondsToBody, file_of};
 
@@ -9,12 +10,15 @@ use crate::commands::body::BodyLines;
 use crate::commands::written::written_response;
 use crate::journal::journal_response;
 use ftd_cli::DayClock;
+use ftd_days::Day;
 use ftd_desk::Desk;
 use ftd_http::Inquiry;
 use ftd_ports::Port;
 use ftd_program::JobEnd;
+use ftd_server::{
+    Machine, Response, account_response, desk_response, home_response, still_answers,
+};
 use ftd_shell::{Inputs, Shell, Shows};
-use ftd_server::{Machine, Response, desk_response, still_answers};
 use sqlite::Alter;
 use std::alloc::{AllocError, Global};
 
@@ -104,14 +108,25 @@ fn body_response<S: Alter, F: Inputs + DayClock>(
     )
 }
 
-/// The way in which a shell answers messages: commands itself, journals out of its desk, and
-/// requests by it.
+/// The day that the clock tells to a page. None for all else, which has no day.
+fn page_day<C: DayClock>(clock: &mut C, asked: &Inquiry) -> Option<Day>
+    ensures { result ≡ (if is_for_page asked.now then C.told clock.new else None) }
+{
+    if asked.is_for_page() {
+        clock.today()
+    } else {
+        None
+    }
+}
+
+/// The way in which a shell answers messages: commands itself, the first page by its clock, that of
+/// an account by its clock and its desk, journals out of its desk, and requests by it.
 pub(crate) struct ByShell;
 
 impl<S: Alter, F: Inputs + DayClock> Machine<ByShell> for Shell<S, F> {
     ghost use Rattle.ftd.specs.Commands.{AsksDesk, Responds};
 
-    ghost goes = { Responds S.Store };
+    ghost goes = { Responds S.Store F.told };
 
     ghost stays = { AsksDesk S.Store };
 
@@ -124,7 +139,15 @@ impl<S: Alter, F: Inputs + DayClock> Machine<ByShell> for Shell<S, F> {
         match asked {
             Inquiry::Commands => body_response(alloc, self, body),
             Inquiry::Journal(account) => journal_response(alloc, &mut self.desk, account.as_ref()),
-            _ => desk_response(alloc, &mut self.desk, asked),
+            Inquiry::Home => home_response(alloc, self.inputs.today()),
+            Inquiry::Account(account) => {
+                let day = self.inputs.today();
+                account_response(alloc, &mut self.desk, day, account)
+            }
+            _ => {
+                let today = page_day(&mut self.inputs, asked);
+                desk_response(alloc, &mut self.desk, today, asked)
+            }
         }
     }
 

@@ -1,6 +1,6 @@
-use Rattle.std.proofs.Common.{None, sym, ap, ◌∙◌}
+use Rattle.std.proofs.Common.{sym, ap, ◌∙◌}
 use Rattle.ftd_verbs.specs.Rows.{VerbRow}
-use Rattle.ftd_http.proofs.AskFacts.{no_text, by_route, wrong_method, right_method}
+use Rattle.ftd_http.proofs.AskFacts.{no_text, by_no_route, wrong_method, right_method}
 use Rattle.ftd_http.proofs.ask.verb_asked.Goals as goal
 
 pub returns-in_default : goal.returns-in_default
@@ -9,8 +9,9 @@ returns-in_default c = no_text c.args.method.now c.args.target.now c.args.body.n
 
 pub returns-in_default-look_up : goal.returns-in_default-look_up
 returns-in_default-look_up c =
-    by_route c.args.method.now c.args.target.now c.args.body.now None c.in-Ok.ensures.cases.1
+    by_no_route _ c.args.method.now c.args.target.now c.args.body.now c.in-Ok.ensures.cases.1
     (rw (c.requires, c.in-Ok.ensures.cases.0) at c.in_default-look_up.ensures)
+    (rw c.in-Ok.ensures.cases.0 at c.unrouted.ensures)
 
 pub returns-then-not-is_method : goal.returns-then-not-is_method
 returns-then-not-is_method c =

@@ -1,6 +1,7 @@
-use Rattle.std.proofs.Common.{refl, inr}
+use Rattle.std.proofs.Common.{refl}
 use Rattle.std.specs.Prelude.{Result, Ok, Err, IfOk, OnErr}
 use Rattle.ftd_server.specs.Replying.{answered}
+use Rattle.ftd_server.specs.Responses.{style_sheet}
 use Rattle.ftd_server.proofs.respond.desk_response.Goals as goal
 
 -- what holds in any case holds at an error
@@ -8,13 +9,16 @@ on_err : {T E P : Type 0} (result : Result T E) → P → OnErr result P
 on_err (Ok x) fact = tt
 on_err (Err e) fact = fact
 
+pub returns-in-StyleSheet-clause-err : goal.returns-in-StyleSheet-clause-err
+returns-in-StyleSheet-clause-err g c =
+    on_err c.style_response.result (style_sheet, rw c.in-StyleSheet.is (refl, refl))
+
 pub returns-in-Asks-clause-err : goal.returns-in-Asks-clause-err
 returns-in-Asks-clause-err g c =
-    on_err c.answered.result
-    (inr (
-      answered c.in-Asks.format c.handle-answer.result,
+    on_err c.answered.result (
+      answered c.args.today c.in-Asks.format c.handle-answer.result,
       rw c.in-Asks.is (c.handle-answer.result, c.handle-answer.ensures.handles, refl),
-    ))
+    )
 
 -- what follows from the value of an Ok
 if_ok : {T E : Type 0} {P Q : T → Type 0} (result : Result T E) → ((x : T) → P x → Q x)

@@ -1,5 +1,7 @@
 use Rattle.std.proofs.Common.{inr, refl}
-use Rattle.ftd.proofs.Responses.{by_desk, desk_lost, if_ok, on_err}
+use Rattle.ftd_server.specs.Replying.{home}
+use Rattle.ftd_server.specs.Tables.{handles}
+use Rattle.ftd.proofs.Responses.{at_err, by_desk, if_ok, on_err, on_the_day}
 use Rattle.ftd.proofs.commands.served.ShellMachineByShell.respond.Goals as goal
 
 pub returns-in-Commands-clause-ok : goal.returns-in-Commands-clause-ok
@@ -26,12 +28,35 @@ returns-in-Journal-clause-err g c =
     (on_err c.journal_response.result (λ lost. inr (lost.0, (lost.1, refl)))
     (rw c.as_ref.ensures.value at c.journal_response.ensures.err))
 
+pub returns-in-Home-clause-ok : goal.returns-in-Home-clause-ok
+returns-in-Home-clause-ok g c =
+    rw c.in-Home.is
+    (if_ok c.home_response.result (λ response is. ((refl, rw c.today.ensures is), refl))
+    c.home_response.ensures)
+
+pub returns-in-Home-clause-err : goal.returns-in-Home-clause-err
+returns-in-Home-clause-err g c =
+    rw c.in-Home.is (at_err c.home_response.result (inr (home _, ((refl, refl), refl))))
+
+pub returns-in-Account-clause-ok : goal.returns-in-Account-clause-ok
+returns-in-Account-clause-ok g c =
+    rw c.in-Account.is
+    (if_ok c.account_response.result (λ response said. (rw c.today-day.ensures said, refl))
+    c.account_response.ensures.ok)
+
+pub returns-in-Account-clause-err : goal.returns-in-Account-clause-err
+returns-in-Account-clause-err g c =
+    rw c.in-Account.is
+    (on_err c.account_response.result
+    (λ lost. inr (lost.0, (rw c.today-day.ensures lost.1, refl))) c.account_response.ensures.err)
+
 pub returns-in_default-clause-ok : goal.returns-in_default-clause-ok
 returns-in_default-clause-ok g c =
     if_ok c.desk_response.result
     (λ response said. (
-      by_desk g.S.Store _ _ _ _ _ _ c.in_default.not-Commands
-          c.in_default.not-Journal said,
+      by_desk g.S.Store _ _ _ _ _ _ _ c.in_default.not-Commands c.in_default.not-Journal
+          c.in_default.not-Home c.in_default.not-Account
+          (on_the_day (handles g.S.Store) _ _ _ _ _ _ c.page_day-today.ensures said),
       refl,
     ))
     c.desk_response.ensures.ok
@@ -39,6 +64,13 @@ returns-in_default-clause-ok g c =
 pub returns-in_default-clause-err : goal.returns-in_default-clause-err
 returns-in_default-clause-err g c =
     on_err c.desk_response.result
-    (desk_lost g.S.Store c.args.self.now _ c.args.asked.now c.args.body.now
-    c.in_default.not-Commands c.in_default.not-Journal)
+    (λ lost. inr (
+      lost.0,
+      (
+        by_desk g.S.Store _ _ _ _ _ _ _ c.in_default.not-Commands c.in_default.not-Journal
+            c.in_default.not-Home c.in_default.not-Account
+            (on_the_day (handles g.S.Store) _ _ _ _ _ _ c.page_day-today.ensures lost.1),
+        refl,
+      ),
+    ))
     c.desk_response.ensures.err
