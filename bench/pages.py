@@ -1,17 +1,15 @@
 #!/usr/bin/env python3
-"""The pages of random desks, read by a parser of HTML, beside the same answers as CSV and JSON.
+"""The pages of random desks, read by a parser of HTML, beside the same answers as JSON.
 
     bench/pages.py [PROGRAM [DESKS [REQUESTS]]]
 
 It needs Debian's python3-html5lib. DESKS desks (300 if none is given) are made of REQUESTS random requests (60 if none is given), and served. Each list,
 and why each obligation is so, is asked over HTTP as a page. Each page has to be read without a fault and to have a language, a title of its own, a caption
-for each table, and a scope for each header cell; the cells of a list have to be those of its CSV, one by one, and those of an explanation the values of its
-JSON. Each link of a page has to lead to a page. It ends with status 1 at the first difference.
+for each table, and a scope for each header cell; the cells have to be the values of its JSON, one by one. Each link of a page has to lead to a page.
+It ends with status 1 at the first difference.
 """
 
-import csv
 import http.client
-import io
 import json
 import os
 import random
@@ -83,18 +81,18 @@ def tables_of(document):
 
 
 def compare_list(server, path, titles):
-    """Compares the page of a list with its CSV, and gives the document and the number of its cells."""
-    status, _, sheet = server.get(f"{path}/csv")
-    assert status == 200, (path, status, sheet)
-    names, *rows = csv.reader(io.StringIO(sheet, newline=""))
+    """Compares the page of a list with its JSON, and gives the document and the number of its cells."""
+    status, _, said = server.get(f"{path}/json")
+    assert status == 200, (path, status, said)
+    rows = [{name: shown(value) for name, value in row.items()} for row in json.loads(said)["rows"]]
     status, fields, page = server.get(f"{path}/html")
     assert status == 200 and fields["Content-Type"].startswith("text/html"), (path, status)
     assert fields["Connection"] == "close" and "default-src 'none'" in fields["Content-Security-Policy"], path
     document, title = read_page(page, path)
     assert titles.setdefault(title, path) == path, f"{path} and {titles[title]} have one title"
-    found = [it[1:] for it in tables_of(document)]
-    assert found == ([[names, rows]] if rows else []) or found == [(names, rows)], f"{path}: {found} in place of {(names, rows)}"
-    return document, len(names) * len(rows)
+    found = [[dict(zip(names, row)) for row in table] for _, names, table in tables_of(document)]
+    assert found == ([rows] if rows else []), f"{path}: {found} in place of {rows}"
+    return document, sum(map(len, rows))
 
 
 def shown(value):
