@@ -7,6 +7,7 @@ use ftd_files::{ProgramFault, close_files, desk_of, is_new, open_with_short_log,
 use ftd_ports::Port;
 use ftd_server::{Limits, announce, serve_on};
 use ftd_shell::Shell;
+use ftd_waiting::WaitingRoom;
 use sqlite::{Alter, Connection, FileStore};
 use sqlite_disk::Disk;
 use std::io;
@@ -16,14 +17,16 @@ use std::net::TcpListener;
 const REOPENING: u32 = 10;
 
 /// Serves so many connections of this machine, one after the other. If its store fails, the file is
-/// closed, and opened again for the next connection. `NotClosed` if it can't be closed at the end.
+/// closed, and opened again for the next connection; those that wait go on waiting. `NotClosed` if it
+/// can't be closed at the end.
 pub fn serve_file(rt: &HostRuntime, task: &ServeTask) -> Result<u8, ProgramFault> {
     let Ok(listener) = TcpListener::bind(rt, ("127.0.0.1", task.port)) else {
         return Err(ProgramFault::Net);
     };
     let is_new = is_new(rt, &task.db)?;
     let conn = open_with_short_log(rt, &task.db, task.wait)?;
-    let Some(mut taken) = serve_first(rt, task, &listener, conn, is_new)? else {
+    let mut room = WaitingRoom::new(rt, &listener);
+    let Some(mut taken) = serve_first(rt, task, &mut room, conn, is_new)? else {
         return Ok(3);
     };
     // Each turn takes one connection at least.
@@ -32,7 +35,7 @@ pub fn serve_file(rt: &HostRuntime, task: &ServeTask) -> Result<u8, ProgramFault
             break;
         }
         let conn = open_with_short_log(rt, &task.db, task.wait.max(REOPENING))?;
-        taken = serve_again(rt, task, &listener, taken, conn)?;
+        taken = serve_again(rt, task, &mut room, taken, conn)?;
     }
     Ok(0)
 }
@@ -53,7 +56,7 @@ fn shell_of<'a, D: Disk + Drop>(
 fn serve_first<D: Disk + Drop>(
     rt: &HostRuntime,
     task: &ServeTask,
-    listener: &TcpListener,
+    room: &mut WaitingRoom<'_>,
     conn: Connection<FileStore<D>>,
     is_new: bool,
 ) -> Result<Option<u32>, ProgramFault> {
@@ -62,8 +65,8 @@ fn serve_first<D: Disk + Drop>(
         tell_made(rt, &task.db);
     }
     let mut taken = None;
-    if is_announced(rt, listener) {
-        taken = Some(serve_until(rt, task, listener, 0, &mut shell));
+    if is_announced(rt, room.listener()) {
+        taken = Some(serve_until(rt, task, room, 0, &mut shell));
     }
     closed_after(shell, taken.is_none_or(|it| it >= task.connections))?;
     Ok(taken)
@@ -74,12 +77,12 @@ fn serve_first<D: Disk + Drop>(
 fn serve_again<D: Disk + Drop>(
     rt: &HostRuntime,
     task: &ServeTask,
-    listener: &TcpListener,
+    room: &mut WaitingRoom<'_>,
     taken: u32,
     conn: Connection<FileStore<D>>,
 ) -> Result<u32, ProgramFault> {
     let mut shell = shell_of(rt, task, conn)?;
-    let taken = serve_until(rt, task, listener, taken, &mut shell);
+    let taken = serve_until(rt, task, room, taken, &mut shell);
     closed_after(shell, taken >= task.connections)?;
     Ok(taken)
 }
@@ -107,7 +110,7 @@ fn is_announced(rt: &HostRuntime, listener: &TcpListener) -> bool {
 fn serve_until<S: Alter>(
     rt: &HostRuntime,
     task: &ServeTask,
-    listener: &TcpListener,
+    room: &mut WaitingRoom<'_>,
     taken: u32,
     shell: &mut Shell<S, Around<'_>>,
 ) -> u32 {
@@ -118,12 +121,5 @@ fn serve_until<S: Alter>(
         duration: task.duration,
     };
     let taken = taken.min(limits.connections);
-    serve_on(
-        rt,
-        listener,
-        limits,
-        taken,
-        shell,
-        &mut Port::new(rt.stderr()),
-    )
+    serve_on(rt, room, limits, taken, shell, &mut Port::new(rt.stderr()))
 }

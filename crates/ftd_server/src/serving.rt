@@ -10,7 +10,8 @@ use crate::{
     serve_machine, tell_outcome,
 };
 use ftd_ports::{Port, Target};
-use std::net::{TcpListener, TcpStream};
+use ftd_waiting::{Next, WaitingRoom};
+use std::net::TcpStream;
 use std::thread;
 use std::time::{Clock, Duration};
 
@@ -19,7 +20,8 @@ use std::time::{Clock, Duration};
 pub struct Limits {
     /// How many connections it takes.
     pub connections: u32,
-    /// How many seconds a peer may be idle between two messages, and before the first.
+    /// How many seconds a peer may be idle between two messages, and before the first, from when
+    /// it was accepted.
     pub idle: u32,
     /// How many seconds a read inside a message or a write waits for the peer.
     pub silence: u32,
@@ -70,19 +72,25 @@ fn is_ended_here(served: ServedConnection) -> bool {
     matches!(served.end, End::Asked | End::Limit | End::BadMessage)
 }
 
-/// Takes a connection, and serves it. After an error of the listener it waits for a tenth of a
-/// second, so that one that lasts does not keep the processor busy.
+/// Takes the connection whose turn is next, after which so many others may be taken, and serves it;
+/// one on which nothing came in time is served with no message. After an error of the listener it
+/// waits for a tenth of a second, so that one that lasts does not keep the processor busy.
 fn take_one<By, M: Machine<By>, R: Clock + AllocGlobal>(
     rt: &R,
-    listener: &TcpListener,
+    room: &mut WaitingRoom<'_>,
     limits: Limits,
+    others: u32,
     machine: &mut M,
 ) -> Outcome
     ensures { IsServed M.goes machine.old result machine.new }
 {
-    let Ok((stream, _)) = listener.accept() else {
-        let _ = thread::sleep(rt, Duration::from_millis(100));
-        return Outcome::Missed;
+    let stream = match room.next(rt, seconds(limits.idle), others) {
+        Next::Ready(stream) => stream,
+        Next::Idle(_) => return Outcome::Served,
+        Next::Missed => {
+            let _ = thread::sleep(rt, Duration::from_millis(100));
+            return Outcome::Missed;
+        }
     };
     match serve_one(rt, &stream, limits, machine) {
         Ok(()) => Outcome::Served,
@@ -90,16 +98,18 @@ fn take_one<By, M: Machine<By>, R: Clock + AllocGlobal>(
     }
 }
 
-/// Takes a connection, serves it, and sees whether the machine still answers.
+/// Takes a connection, after which so many others may be taken, serves it, and sees whether the
+/// machine still answers.
 fn take_turn<By, M: Machine<By>, R: Clock + AllocGlobal>(
     rt: &R,
-    listener: &TcpListener,
+    room: &mut WaitingRoom<'_>,
     limits: Limits,
+    others: u32,
     machine: &mut M,
 ) -> Turn
     ensures { IsTurn (IsServed M.goes) M.stays machine.old result machine.new }
 {
-    let outcome = take_one(rt, listener, limits, machine);
+    let outcome = take_one(rt, room, limits, others, machine);
     let answers = machine.still_answers(rt.alloc());
     Turn { outcome, answers }
 }
@@ -108,9 +118,13 @@ fn take_turn<By, M: Machine<By>, R: Clock + AllocGlobal>(
 /// were taken, until all are taken, or it does not answer any more. Answers how many were taken in
 /// all. One that fails, or that the listener does not give, is told on `err`, and the next one is
 /// taken. Where `err` fails, nothing more is told on it, and serving goes on.
+///
+/// Those that were accepted are waited for together, and the one on which something comes first is
+/// taken next, so that a silent one holds nobody up. Where the machine does not answer any more,
+/// those that wait stay in the room.
 pub fn serve_on<By, M: Machine<By>, R: Clock + AllocGlobal, Err: Target>(
     rt: &R,
-    listener: &TcpListener,
+    room: &mut WaitingRoom<'_>,
     limits: Limits,
     taken: u32,
     machine: &mut M,
@@ -125,7 +139,8 @@ pub fn serve_on<By, M: Machine<By>, R: Clock + AllocGlobal, Err: Target>(
 {
     let mut told = Ok(());
     for number in taken..limits.connections {
-        let turn = take_turn(rt, listener, limits, machine);
+        let others = limits.connections - (number + 1);
+        let turn = take_turn(rt, room, limits, others, machine);
         told = tell_outcome(told, number + 1, turn.outcome, err);
         if !turn.answers {
             return number + 1;

@@ -5,6 +5,7 @@ use crate::exchanges::{INPUT, OUTPUT};
 use crate::taker::Taker;
 use ftd_ports::Port;
 use ftd_server::{Limits, Stop, announce, serve_on};
+use ftd_waiting::WaitingRoom;
 use std::alloc::Global;
 use std::io::{Read, Write};
 use std::net::{Shutdown, TcpListener, TcpStream};
@@ -31,7 +32,8 @@ fn are_same(rt: &impl Abort, written: &[u8], wanted: &[u8]) {
 fn served(rt: &HostRuntime, listener: &TcpListener, count: u32) -> Result<(u32, Vec<u8>), Fail> {
     let mut err = Port::new(Vec::new(rt.alloc()));
     let mut desk = new_desk(rt.alloc())?;
-    let taken = serve_on(rt, listener, limits(count), 0, &mut desk, &mut err);
+    let mut room = WaitingRoom::new(rt, listener);
+    let taken = serve_on(rt, &mut room, limits(count), 0, &mut desk, &mut err);
     Ok((taken, err.into_inner()))
 }
 
@@ -84,7 +86,7 @@ fn an_idle_peer_is_not_told_a_silent_one_fails_and_the_next_is_answered(
     let client = client(&rt, &listener)?;
     let (taken, told) = served(&rt, &listener, 3)?;
     assert_eq!(rt; taken, 3);
-    are_same(&rt, told.as_slice(), b"connection 2 failed Read\n");
+    are_same(&rt, told.as_slice(), b"connection 1 failed Read\n");
     are_answered(&rt, rt.alloc(), client)?;
     let mut nothing = Vec::new(rt.alloc());
     idle.read_to_end(&mut nothing)?;
