@@ -8,7 +8,8 @@ use Rattle.std.proofs.lemmas.Str.{IsUtf8-from_is_utf8, is_utf8-from_IsUtf8}
 use Rattle.ftd_machine.specs.declared.requests.Request.{Request}
 use Rattle.ftd_http.specs.Routes.{route_of}
 use Rattle.ftd_http.specs.Requests.{request_of}
-use Rattle.ftd_http.specs.Asking.{method_text, method_of, formed, routed, unrouted, verb_asked}
+use Rattle.ftd_http.specs.Asking.{method_of, formed, routed, unrouted, verb_asked}
+use Rattle.ftd_http.specs.Methods.{method_text}
 use Rattle.ftd_http.specs.declared.route.Route.{Route}
 use Rattle.ftd_http.specs.declared.ask.Inquiry.{Inquiry}
 use Rattle.ftd_http.specs.declared.ask.Inquiry.TheVariants as asked

@@ -10,3 +10,4 @@ pub mod BodyFacts
 pub mod PathFacts
 pub mod AskFacts
 pub mod NameFacts
+pub mod ControlFacts

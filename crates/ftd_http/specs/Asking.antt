@@ -9,18 +9,13 @@ use Rattle.ftd_verbs.specs.declared.formats.AnswerFormat.{AnswerFormat}
 use Rattle.ftd_verbs.specs.declared.formats.AnswerFormat.TheVariants.{Plain, Page}
 use Rattle.ftd_verbs.specs.declared.rows.Method.{Method}
 use Rattle.ftd_verbs.specs.declared.rows.Method.TheVariants.{Get, Post, Put, Delete}
+use Rattle.ftd_http.specs.Forms.{form_at}
+use Rattle.ftd_http.specs.Methods.{method_text}
 use Rattle.ftd_http.specs.Routes.{route_of}
 use Rattle.ftd_http.specs.Requests.{request_of}
 use Rattle.ftd_http.specs.declared.route.Route.{Route}
 use Rattle.ftd_http.specs.declared.ask.Inquiry.{Inquiry}
 use Rattle.ftd_http.specs.declared.ask.Inquiry.TheVariants as asked
-
--- a method
-abbrev pub method_text : Method → List ℕ
-method_text Get = codes "GET"
-method_text Post = codes "POST"
-method_text Put = codes "PUT"
-method_text Delete = codes "DELETE"
 
 -- what a message of the right method asks
 abbrev pub formed : AnswerFormat → Option Request → Inquiry
@@ -51,13 +46,13 @@ abbrev pub page_asked : List ℕ → List ℕ → Inquiry
 page_asked method account =
     if bytes_eq method (method_text Get) then asked.Account account else asked.OtherMethod Get
 
--- what a message asks whose target is no verb's: the page of an account, or nothing
-abbrev pub page_if : List ℕ → Option (List ℕ) → Inquiry
-page_if method None = asked.NoRoute
-page_if method (Some account) = page_asked method account
+-- what a message asks whose target is no verb's: the page of an account, a form, or nothing
+abbrev pub page_if : List ℕ → List ℕ → Option (List ℕ) → Inquiry
+page_if method target None = form_at method target
+page_if method target (Some account) = page_asked method account
 
 abbrev pub unrouted : List ℕ → List ℕ → Inquiry
-unrouted method target = page_if method (page_name target)
+unrouted method target = page_if method target (page_name target)
 
 abbrev pub routed : List ℕ → List ℕ → List ℕ → Option Route → Inquiry
 routed method target body None = unrouted method target
@@ -138,10 +133,13 @@ abbrev pub is_for_page : Inquiry → Bool
 is_for_page (asked.Asks format request) = is_page format
 is_for_page other = false
 
--- it asks for what a browser shows: a page, the first one and that of an account too, or the style
--- sheet of the pages
+-- it asks for what a browser shows: a page, the first one, that of an account and those of forms
+-- too, or the style sheet of the pages
 abbrev pub is_for_browser : Inquiry → Bool
 is_for_browser asked.Home = true
 is_for_browser (asked.Account account) = true
+is_for_browser asked.Forms = true
+is_for_browser (asked.Form verb account payable) = true
+is_for_browser (asked.Sent verb) = true
 is_for_browser asked.StyleSheet = true
 is_for_browser other = is_for_page other

@@ -9,4 +9,8 @@ pub mod Paths
 pub mod Values
 pub mod Bodies
 pub mod Requests
+pub mod Controls
+pub mod FormFields
+pub mod Methods
+pub mod Forms
 pub mod Asking

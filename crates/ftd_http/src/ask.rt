@@ -7,16 +7,28 @@ ghost use Rattle.ftd_http.specs.Asking.{account_behind, account_in, asked_of, co
 ghost use Rattle.ftd_http.specs.Asking.{commands_path, formed, page_asked, page_behind, page_name};
 ghost use Rattle.ftd_http.specs.Asking.{unrouted};
 ghost use Rattle.ftd_http.specs.Asking.{home_asked, home_path, is_for_browser, is_for_page};
-ghost use Rattle.ftd_http.specs.Asking.{journal_asked, journal_name, journal_path, method_text};
+ghost use Rattle.ftd_http.specs.Asking.{journal_asked, journal_name, journal_path};
+ghost use Rattle.ftd_http.specs.Methods.{method_text};
 ghost use Rattle.ftd_http.specs.Asking.{named_by, style_asked, style_path, verb_asked};
 
+use crate::forms::form_at;
 use crate::message_fields::make_request;
 use crate::route::{last_cut, look_up};
 use crate::values::name;
+use ftd_days::{Cents, Day};
 use ftd_machine::{AccountName, Request};
 use ftd_verbs::{AnswerFormat, Method, Verb};
 use matchit::Router;
 use std::alloc::{AllocError, Global};
+
+/// What of an obligation may be paid.
+#[derive(Clone, Copy, Debug, PartialEq, Eq)]
+pub struct Payable {
+    /// The first day of its deposit period.
+    pub first: Day,
+    /// What is left to pay of it.
+    pub left: Cents,
+}
 
 /// What a message asks.
 #[derive(Drop)]
@@ -35,6 +47,17 @@ pub enum Inquiry {
     Journal(Option<AccountName>),
     /// The page of the account is to be told.
     Account(AccountName),
+    /// The page that lists forms is to be shown.
+    Forms,
+    /// The form of the verb is to be shown, with this account filled in, if one is named, and what
+    /// may be paid, if that is named too.
+    Form {
+        verb: Verb,
+        account: Option<AccountName>,
+        payable: Option<Payable>,
+    },
+    /// The form of the verb was filled in, and is in the body.
+    Sent(Verb),
     /// The style sheet of the pages is to be told.
     StyleSheet,
     /// A request to the desk. A reply that has several formats is told in this one.
@@ -58,15 +81,20 @@ impl Inquiry {
         )
     }
 
-    /// Whether it asks for what a browser shows: a page, the first one and that of an account too,
-    /// or the style sheet of the pages.
+    /// Whether it asks for what a browser shows: a page, the first one, that of an account and those
+    /// of forms too, or the style sheet of the pages.
     pub fn is_for_browser(&self) -> bool
         ensures { result ≡ is_for_browser self.now }
     {
         self.is_for_page()
             || matches!(
                 self,
-                Inquiry::Home | Inquiry::Account(_) | Inquiry::StyleSheet
+                Inquiry::Home
+                    | Inquiry::Account(_)
+                    | Inquiry::Forms
+                    | Inquiry::Form { .. }
+                    | Inquiry::Sent(_)
+                    | Inquiry::StyleSheet
             )
     }
 }
@@ -286,19 +314,19 @@ fn page_asked(method: &[u8], account: AccountName) -> Inquiry
     }
 }
 
-/// What a message of this method asks whose target is no verb's: the page of an account, or
+/// What a message of this method asks whose target is no verb's: the page of an account, a form, or
 /// nothing.
 fn unrouted(alloc: Global, method: &[u8], target: &str) -> Result<Inquiry, AllocError>
     ensures { IfOk result (λ asked. asked ≡ unrouted method.now target.now) }
 {
     match page_name(target) {
         Some(account) => Ok(page_asked(method, name(alloc, account)?)),
-        None => Ok(Inquiry::NoRoute),
+        None => form_at(alloc, method, target),
     }
 }
 
 /// Whether the text is this method.
-fn is_method(text: &[u8], method: Method) -> bool
+pub(crate) fn is_method(text: &[u8], method: Method) -> bool
     ensures { result ≡ bytes_eq text.now (method_text method) }
 {
     text == method_bytes(method)

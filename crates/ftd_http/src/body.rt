@@ -68,7 +68,7 @@ pub fn form_at(value: &Value, key: &str) -> Option<Form>
 }
 
 /// The form that a text names.
-fn form_in(text: &str) -> Option<Form>
+pub(crate) fn form_in(text: &str) -> Option<Form>
     ensures { result ≡ form_of text.now }
 {
     match text {

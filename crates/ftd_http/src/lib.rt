@@ -4,7 +4,10 @@
 
 mod ask;
 mod body;
+mod controls;
 mod fields;
+mod form_fields;
+mod forms;
 pub mod laws;
 mod lengths;
 mod look;
@@ -17,7 +20,9 @@ mod route;
 mod status;
 mod values;
 
-pub use crate::ask::{Inquiry, method_bytes, what_is_asked};
+pub use crate::ask::{Inquiry, Payable, method_bytes, what_is_asked};
+pub use crate::controls::{Control, are_of_form, read_controls, text_at};
+pub use crate::form_fields::read_form;
 pub use crate::lengths::{BODY_LIMIT, number_in};
 pub use crate::look::{HEAD_LIMIT, Parts};
 pub use crate::peer::Peer;

@@ -97,6 +97,12 @@ module _ {S : Type 0} (g : store.Ghosts S) where
       same_desk _ _ _ (held_same now later same) (λ s. (refl, is))
   responds now later (asked.Account account) said (same, is) =
       same_desk _ _ _ (held_same now later same) (λ s. (refl, is))
+  responds now later asked.Forms said (same, is) = same_desk _ _ _ (held_same now later same)
+      (λ s. (refl, is))
+  responds now later (asked.Form verb account payable) said (same, is) =
+      same_desk _ _ _ (held_same now later same) (λ s. (refl, is))
+  responds now later (asked.Sent verb) said (same, is) =
+      same_desk _ _ _ (held_same now later same) (λ s. (refl, is))
   responds now later asked.StyleSheet said (same, is) =
       same_desk _ _ _ (held_same now later same) (λ s. (refl, is))
   responds now later (asked.Asks format request) said (answer, handled, is) =

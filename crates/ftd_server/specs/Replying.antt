@@ -38,7 +38,7 @@ abbrev pub posted : Difference → Said
 posted d = json status.Okay (object_of (members_of (posted_fields d)))
 
 -- The ways of the server's pages on the day of today, if it is known: to what is owed as of today,
--- to what is due from today on, and to the accounts.
+-- to what is due from today on, to the accounts, and to the forms.
 abbrev pub ways_on : Option ℕ → Ways
 ways_on None = Nowhere
 ways_on (Some today) = From today (shown_until today)
@@ -80,6 +80,11 @@ module _ {M : Type 0} (goes : M → Request → Answer → M → Type 0) where
   Responds today now (asked.Journal account) said later =
       (later ≡ now) × (said ≡ bare status.NotFound)
   Responds today now (asked.Account account) said later =
+      (later ≡ now) × (said ≡ bare status.NotFound)
+  Responds today now asked.Forms said later = (later ≡ now) × (said ≡ bare status.NotFound)
+  Responds today now (asked.Form verb account payable) said later =
+      (later ≡ now) × (said ≡ bare status.NotFound)
+  Responds today now (asked.Sent verb) said later =
       (later ≡ now) × (said ≡ bare status.NotFound)
   Responds today now asked.StyleSheet said later = (later ≡ now) × (said ≡ style_sheet)
   Responds today now (asked.Asks format request) said later =

@@ -14,7 +14,7 @@ use Rattle.ftd_pages.specs.declared.style.TheConstants.{STYLE}
 use Rattle.ftd_verbs.specs.declared.formats.AnswerFormat.{AnswerFormat}
 use Rattle.ftd_verbs.specs.declared.formats.AnswerFormat.TheVariants.{Plain, Page}
 use Rattle.ftd_verbs.specs.declared.rows.Method.{Method}
-use Rattle.ftd_http.specs.Asking.{method_text}
+use Rattle.ftd_http.specs.Methods.{method_text}
 use Rattle.ftd_server.specs.declared.response.Content.{Content}
 use Rattle.ftd_server.specs.declared.response.Content.TheVariants as content
 use Rattle.ftd_server.specs.declared.response.OwedPage.{OwedPage}
@@ -82,6 +82,10 @@ abbrev pub formatted : AnswerFormat → List ℕ → Said
 formatted format body =
     record (bare status.Okay) { content = content_of format; body = body }
 
+-- a response with a page
+abbrev pub page : Status → List ℕ → Said
+page status body = record (bare status) { content = content.Page; body = body }
+
 -- the response with the style sheet of the pages
 abbrev pub style_sheet : Said
 style_sheet = record (bare status.Okay) { content = content.StyleSheet; body = STYLE.now }
@@ -129,13 +133,13 @@ content_line content.StyleSheet = codes "Content-Type: text/css; charset=utf-8" 
 
 -- the security headers of a page: it loads the server's style sheet and nothing else; its forms are
 -- sent to this server alone; no other page shows it in a frame; its links have no other base; its
--- type is not guessed, its address is not sent to other pages, and no copy of it is kept
+-- type is not guessed, its address is not sent to other sites, and no copy of it is kept
 unfoldable pub page_security : List ℕ
 page_security = concat (
     codes "Content-Security-Policy: default-src 'none'; style-src 'self'; form-action 'self'; "
     ∷ codes "frame-ancestors 'none'; base-uri 'none'" ∷ line_end
     ∷ codes "X-Content-Type-Options: nosniff" ∷ line_end
-    ∷ codes "Referrer-Policy: no-referrer" ∷ line_end
+    ∷ codes "Referrer-Policy: same-origin" ∷ line_end
     ∷ codes "Cache-Control: no-store" ∷ line_end ∷ [])
 
 abbrev pub security_lines : Content → List ℕ

@@ -29,7 +29,7 @@ fn ways_on(today: Option<Day>) -> Ways
 }
 
 /// The frame of the server's pages on the day of today: their style sheet is a route.
-pub(crate) fn server_frame(today: Option<Day>) -> Frame
+pub fn server_frame(today: Option<Day>) -> Frame
     ensures { result ≡ server_frame today }
 {
     Frame {

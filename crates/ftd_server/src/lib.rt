@@ -27,6 +27,7 @@ pub use crate::accounts::account_response;
 pub use crate::announcing::announce;
 pub use crate::closing::end;
 pub use crate::connection::{Cause, End, ServeFault, ServedConnection, serve_machine};
+pub use crate::facts::server_frame;
 pub use crate::home::home_response;
 pub use crate::lines::tell_outcome;
 pub use crate::machine::Machine;
@@ -35,7 +36,7 @@ pub use crate::outcome::{Outcome, Turn};
 pub use crate::refusals::refusal_response;
 pub use crate::respond::desk_response;
 pub use crate::response::{
-    Content, OwedPage, Response, bare_response, json_response, report_response,
+    Content, OwedPage, Response, bare_response, json_response, page_response, report_response,
 };
 pub use crate::serving::{Limits, serve_on};
 pub use crate::stop::Stop;

@@ -21,8 +21,8 @@ use sqlite::Alter;
 use std::alloc::{AllocError, Global};
 
 /// The response of a desk to what is asked, on the day of today, if it is known. A desk alone
-/// answers requests, and no commands; it tells no journals, and has no first page and none of an
-/// account. Where there is no memory for the response, the desk has answered all the same.
+/// answers requests, and no commands; it tells no journals, and has no first page, none of an
+/// account, and no forms. Where there is no memory for the response, the desk has answered all the same.
 pub fn desk_response<S: Alter>(
     alloc: Global,
     desk: &mut Desk<S>,
@@ -38,9 +38,13 @@ pub fn desk_response<S: Alter>(
         Inquiry::NoRoute => Ok(bare_response(alloc, Status::NotFound)),
         Inquiry::OtherMethod(allow) => Ok(other_method(alloc, *allow)),
         Inquiry::BadForm => Ok(bare_response(alloc, Status::BadRequest)),
-        Inquiry::Home | Inquiry::Commands | Inquiry::Journal(_) | Inquiry::Account(_) => {
-            Ok(bare_response(alloc, Status::NotFound))
-        }
+        Inquiry::Home
+        | Inquiry::Commands
+        | Inquiry::Journal(_)
+        | Inquiry::Account(_)
+        | Inquiry::Forms
+        | Inquiry::Form { .. }
+        | Inquiry::Sent(_) => Ok(bare_response(alloc, Status::NotFound)),
         Inquiry::StyleSheet => style_response(alloc),
         Inquiry::Asks { format, request } => {
             let answer = desk.handle(request);

@@ -4,7 +4,8 @@ ghost use Rattle.std.specs.Prelude.{◌≡◌, Some, IfOk, map};
 ghost use Rattle.ftd_answers.specs.Fields.{member_of, object_of};
 ghost use Rattle.ftd_ports.specs.Writing.{Writes};
 ghost use Rattle.ftd_server.specs.Responses.{said_of, bare, json, formatted, list_content};
-ghost use Rattle.ftd_server.specs.Responses.{content_of, other_method, plain_content, style_sheet};
+ghost use Rattle.ftd_server.specs.Responses.{content_of, other_method, page, plain_content};
+ghost use Rattle.ftd_server.specs.Responses.{style_sheet};
 ghost use Rattle.ftd_server.specs.Responses.{status_text, allow_line, content_line, fields_text};
 ghost use Rattle.ftd_server.specs.Responses.{connection_line, head_text, location_line, owed_line};
 ghost use Rattle.ftd_server.specs.Responses.{response_text, security_lines, see_owed, start_text};
@@ -167,6 +168,19 @@ pub fn report_response(format: AnswerFormat, body: Vec<u8>) -> Response
         allow: None,
         location: None,
         content: content_of(format),
+        body,
+    }
+}
+
+/// A response with a page.
+pub fn page_response(status: Status, body: Vec<u8>) -> Response
+    ensures { said_of result ≡ page status body.items }
+{
+    Response {
+        status,
+        allow: None,
+        location: None,
+        content: Content::Page,
         body,
     }
 }
@@ -364,12 +378,12 @@ fn content_line(content: Content) -> &'static [u8]
 
 /// The security headers of a page. It loads the server's style sheet and nothing else; its forms
 /// are sent to this server alone; no other page shows it in a frame; its links have no other base.
-/// Its type is not guessed, its address is not sent to other pages, and no copy of it is kept.
+/// Its type is not guessed, its address is not sent to other sites, and no copy of it is kept.
 const SECURITY_LINES: &[u8] = b"\
     Content-Security-Policy: default-src 'none'; style-src 'self'; form-action 'self'; \
     frame-ancestors 'none'; base-uri 'none'\r\n\
     X-Content-Type-Options: nosniff\r\n\
-    Referrer-Policy: no-referrer\r\n\
+    Referrer-Policy: same-origin\r\n\
     Cache-Control: no-store\r\n";
 
 /// The lines with the security headers of a page.
