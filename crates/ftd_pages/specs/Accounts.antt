@@ -1,8 +1,9 @@
--- The links from the page of an account to its lists.
+-- The links from the page of an account to its lists and forms.
 use Rattle.std.specs.Prelude.{ℕ, List, [], ◌∷◌, ◌++◌, codes}
 use Rattle.std.specs.List.{flat_map}
 use Rattle.ftd_days.specs.Calendar.{quarter_of}
 use Rattle.ftd_days.specs.Text.{day_text, quarter_text}
+use Rattle.ftd_pages.specs.FormLists.{account_forms}
 use Rattle.ftd_pages.specs.Links.{address_in_page, link}
 use Rattle.ftd_pages.specs.declared.accounts.AccountList.{AccountList}
 use Rattle.ftd_pages.specs.declared.accounts.AccountList.TheVariants.{Years, Reported, Due}
@@ -30,7 +31,8 @@ list_link account today Years =
     link (list_address account (codes "/years/html")) (codes "Open years")
 list_link account today Reported =
     link (list_address account (codes "/reported/html")) (codes "Reported totals")
-list_link account today Due = link (due_list_address account (quarter_of today) today) (codes "Due list")
+list_link account today Due =
+    link (due_list_address account (quarter_of today) today) (codes "Due list")
 list_link account today ScheduleB =
     link (quarter_address (codes "/accounts/") account (codes "/schedule-b/") (quarter_of today))
     (codes "Schedule B")
@@ -51,7 +53,11 @@ account_nav account today =
     ++ (flat_map (list_line account today)
     (Years ∷ Reported ∷ Due ∷ ScheduleB ∷ Runs ∷ Payments ∷ []) ++ codes "</nav>\n")
 
+-- these, and the links to the forms that name the account
+abbrev pub account_links : List ℕ → ℕ → List ℕ
+account_links account today = account_nav account today ++ account_forms account
+
 -- on a page without ways there are none
 abbrev pub account_ways : Ways → List ℕ → List ℕ
 account_ways Nowhere account = []
-account_ways (From today until) account = account_nav account today
+account_ways (From today until) account = account_links account today

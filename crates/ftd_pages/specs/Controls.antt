@@ -12,11 +12,15 @@ use Rattle.ftd_pages.specs.declared.controls.Filled.{Filled}
 use Rattle.ftd_pages.specs.declared.controls.Options.{Options}
 use Rattle.ftd_pages.specs.declared.controls.Options.TheVariants.{Answers, Forms}
 
+-- what is filled in, as a name and a text
+abbrev pub pair_of : Filled → List ℕ × List ℕ
+pair_of filled = (filled.name.now, filled.text.now)
+
 -- what is filled in for a field: the first text that is given for a field of its name, or none
 abbrev pub filled_in : List Filled → Field → List ℕ
 filled_in filled field =
     unwrap_or
-    (option_map (λ x. x.text.now) (find (λ x. bytes_eq (key_of x.field) (key_of field)) filled)) []
+    (option_map (λ x. x.text.now) (find (λ x. bytes_eq x.name.now (key_of field)) filled)) []
 
 -- whether a field of this kind must have a value: not where it may be left out, and not where it
 -- is a mark

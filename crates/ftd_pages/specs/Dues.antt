@@ -13,7 +13,7 @@ use Rattle.ftd_machine.specs.declared.facts.OwedList.{OwedList}
 use Rattle.ftd_machine.specs.declared.lists.AgendaRow.{AgendaRow}
 use Rattle.ftd_answers.specs.Agendas.{left_cents}
 use Rattle.ftd_answers.specs.Dues.{agenda_fields, due_fields}
-use Rattle.ftd_pages.specs.Links.{account_address, reason_address}
+use Rattle.ftd_pages.specs.Links.{account_address, pay_if, reason_address}
 use Rattle.ftd_pages.specs.Pages.{due_sums, foot_of, left_sum, titled}
 use Rattle.ftd_pages.specs.Rows.{Shape}
 use Rattle.ftd_pages.specs.Sections.{list_at}
@@ -33,12 +33,15 @@ agenda_words =
     codes "Due" ∷ codes "Account" ∷ codes "Form"
     ∷ (deposit_words ++ (codes "Pay by" ∷ codes "Verdict" ∷ []))
 
--- the account leads to its page, and the first day of the deposit period to why the obligation is so
+-- the account leads to its page, the first day of the deposit period to why the obligation is so,
+-- and what is left to the form of a payment of that
 abbrev pub agenda_address : AgendaRow → List ℕ → Option (List ℕ)
 agenda_address x name =
     if bytes_eq name (codes "account") then Some (account_address x.account)
     else if bytes_eq name (codes "first") then Some (reason_address x.account
     x.row.obligation.first)
+    else if bytes_eq name (codes "left") then pay_if x.account x.row.obligation.first
+    (left_cents x)
     else None
 
 -- the fields of CSV and JSON, and the verdict as the class of a row
@@ -83,10 +86,13 @@ due_words =
     codes "Due" ∷ codes "Account"
     ∷ (deposit_words ++ (codes "Make up by" ∷ codes "Verdict" ∷ []))
 
--- the first day of the deposit period leads to why the obligation is so
+-- the first day of the deposit period leads to why the obligation is so, and what is left to the
+-- form of a payment of that
 abbrev pub due_address : List ℕ → DueRow → List ℕ → Option (List ℕ)
 due_address account x name =
-    if bytes_eq name (codes "first") then Some (reason_address account x.obligation.first) else None
+    if bytes_eq name (codes "first") then Some (reason_address account x.obligation.first)
+    else if bytes_eq name (codes "left") then pay_if account x.obligation.first (left_of x)
+    else None
 
 abbrev pub due_shape : List ℕ → Shape DueRow
 due_shape account = record {

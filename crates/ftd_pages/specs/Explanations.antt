@@ -65,8 +65,8 @@ obligation_part x =
 
 unfoldable pub paydays_part : List RunningSum → List ℕ
 paydays_part paydays =
-    section_of Nowhere payday_shape (titled (codes "Paydays" ∷ [])) (codes "There are none.") [] paydays
-    ++ statement_of payday_rule
+    section_of Nowhere payday_shape (titled (codes "Paydays" ∷ [])) (codes "There are none.") []
+    paydays ++ statement_of payday_rule
 
 unfoldable pub days_part : List CountedDay → List ℕ
 days_part days =
@@ -82,8 +82,8 @@ return_part day =
 
 unfoldable pub payments_part : List ℕ → List KeptPayment → List ℕ
 payments_part account payments =
-    section_of Nowhere (payment_shape account) (titled (codes "Payments" ∷ [])) (codes "There are none.")
-    [] payments
+    section_of Nowhere (payment_shape account) (titled (codes "Payments" ∷ []))
+    (codes "There are none.") [] payments
 
 -- ---- the page
 

@@ -16,4 +16,6 @@ pub mod Formats
 pub mod FormWords
 pub mod Controls
 pub mod Forms
+pub mod FormLists
+pub mod SentForms
 pub mod Private

@@ -1,9 +1,9 @@
 -- The links in the cells of a page.
-use Rattle.std.specs.Prelude.{ℕ, List, [], ◌∷◌, ◌++◌, codes, Option, None, Some}
+use Rattle.std.specs.Prelude.{ℕ, ◌==◌, List, [], ◌∷◌, ◌++◌, codes, Option, None, Some}
 use Rattle.std.specs.Prelude.{if◌then◌else◌}
 use Rattle.std.specs.List.{flat_map}
 use Rattle.std.specs.Str.{bytes_eq}
-use Rattle.ftd_days.specs.Text.{day_text}
+use Rattle.ftd_days.specs.Text.{cents_text, day_text}
 use Rattle.ftd_pages.specs.Escapes.{escaped}
 use Rattle.ftd_pages.specs.declared.frames.Ways.{Ways}
 use Rattle.ftd_pages.specs.declared.frames.Ways.TheVariants.{Nowhere, From}
@@ -22,6 +22,16 @@ abbrev pub reason_address : List ℕ → ℕ → List ℕ
 reason_address account first =
     address_in_page (codes "/accounts/" ∷ account ∷ codes "/explain/" ∷ day_text first
     ∷ codes "/html" ∷ [])
+
+-- the form of a payment of what is left of that obligation; where nothing is left there is none
+abbrev pub pay_address : List ℕ → ℕ → ℕ → List ℕ
+pay_address account first left =
+    address_in_page (codes "/forms/pay/" ∷ account ∷ codes "/" ∷ day_text first ∷ codes "/"
+    ∷ cents_text left ∷ [])
+
+abbrev pub pay_if : List ℕ → ℕ → ℕ → Option (List ℕ)
+pay_if account first left =
+    if left == 0 then None else Some (pay_address account first left)
 
 -- where a field of this name leads in a row whose account alone leads to its page
 abbrev pub to_account : List ℕ → List ℕ → Option (List ℕ)

@@ -27,14 +27,15 @@ abbrev pub style_text : Style → List ℕ
 style_text style.Within = sheet_within STYLE.now
 style_text style.Linked = codes "<link rel=\"stylesheet\" href=\"/style.css\">\n"
 
--- the ways to what is owed as of today until a day, to what is due from today to that day, and to
--- the accounts; or none
+-- the ways to what is owed as of today until a day, to what is due from today to that day, to the
+-- accounts, and to the forms; or none
 unfoldable pub ways_from : ℕ → ℕ → List ℕ
 ways_from today until =
     concat (codes "<nav aria-label=\"Pages\"><a href=\"/owed/" ∷ day_text today ∷ codes "/"
     ∷ day_text until ∷ codes "/html\">Owed</a> <a href=\"/agenda/" ∷ day_text today ∷ codes "/"
     ∷ day_text until ∷ codes "/" ∷ day_text today
-    ∷ codes "/html\">Due</a> <a href=\"/lists/accounts/html\">Accounts</a></nav>\n" ∷ [])
+    ∷ (codes "/html\">Due</a> <a href=\"/lists/accounts/html\">Accounts</a> "
+    ++ codes "<a href=\"/forms\">Enter</a></nav>\n") ∷ [])
 
 abbrev pub ways_text : Ways → List ℕ
 ways_text ways.Nowhere = []

@@ -1,12 +1,13 @@
-//! The links from the page of an account to its lists.
+//! The links from the page of an account to its lists and forms.
 
 ghost use Rattle.ftd_days.specs.Calendar.{quarter_of};
 ghost use Rattle.ftd_ports.specs.Writing.{Writes};
 ghost use Rattle.ftd_pages.specs.Accounts.{account_nav, account_ways, list_address, list_line};
-ghost use Rattle.ftd_pages.specs.Accounts.{list_link, quarter_address};
+ghost use Rattle.ftd_pages.specs.Accounts.{account_links, list_link, quarter_address};
 ghost use Rattle.ftd_pages.specs.Links.{link};
 ghost use Rattle.ftd_pages.specs.declared.accounts.AccountList.TheVariants.{Due};
 
+use crate::form_lists::write_account_forms;
 use crate::frames::Ways;
 use crate::links::write_link;
 use ftd_answers::{RowFormat, Value, write_rows};
@@ -77,8 +78,8 @@ impl<'a> ListLinks<'a> {
         target: &mut W,
     ) -> Result<(), WriteFault>
         ensures { Writes result (W.taken target.old) (W.taken target.new) (W.failed target.new)
-            (link (quarter_address start.now self.now.account.now path.now (quarter_of self.now.today))
-            word.now) }
+            (link (quarter_address start.now self.now.account.now path.now
+            (quarter_of self.now.today)) word.now) }
     {
         let address = [
             Value::Text(start),
@@ -150,7 +151,20 @@ fn write_account_nav<W: Target>(account: &str, today: Day, target: &mut W) -> Re
     write_all(target, b"</nav>\n")
 }
 
-/// Writes the links to the lists of an account, if the page has ways.
+/// Writes the links to the lists of an account, and to the forms that name it.
+fn write_account_links<W: Target>(
+    account: &str,
+    today: Day,
+    target: &mut W,
+) -> Result<(), WriteFault>
+    ensures { Writes result (W.taken target.old) (W.taken target.new)
+        (W.failed target.new) (account_links account.now today) }
+{
+    write_account_nav(account, today, target)?;
+    write_account_forms(account, target)
+}
+
+/// Writes the links to the lists of an account, and to its forms, if the page has ways.
 pub fn write_account_ways<W: Target>(
     ways: Ways,
     account: &str,
@@ -161,6 +175,6 @@ pub fn write_account_ways<W: Target>(
 {
     match ways {
         Ways::Nowhere => Ok(()),
-        Ways::From { today, .. } => write_account_nav(account, today, target),
+        Ways::From { today, .. } => write_account_links(account, today, target),
     }
 }

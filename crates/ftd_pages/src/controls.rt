@@ -14,8 +14,8 @@ use ftd_verbs::{Field, Kind};
 /// What is filled in for a field.
 #[derive(Clone, Copy, Debug)]
 pub struct Filled<'a> {
-    /// The field.
-    pub field: Field,
+    /// The name of the field.
+    pub name: &'a str,
     /// The text that its control has.
     pub text: &'a str,
 }
@@ -34,7 +34,7 @@ pub enum Options {
 pub fn filled_in<'a>(filled: &[Filled<'a>], field: Field) -> &'a str
     ensures { result.now ≡ filled_in filled.now field }
 {
-    match filled.iter().find(|one| one.field.key() == field.key()) {
+    match filled.iter().find(|one| one.name == field.key()) {
         Some(one) => one.text,
         None => "",
     }

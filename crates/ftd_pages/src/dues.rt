@@ -12,7 +12,7 @@ use crate::columns::{
 use crate::feet::Foot;
 use crate::frames::Place;
 use crate::links::Way::{Nowhere, Obligation};
-use crate::links::{to_account, to_reason};
+use crate::links::{to_account, to_payment, to_reason};
 use crate::pages::Page;
 use crate::rows::{Class, PageRow, Part, write_linked_fields};
 use crate::sections::write_list_at;
@@ -65,6 +65,7 @@ impl PageRow for AgendaRow {
     ) -> Result<(), WriteFault> {
         let name = self.account.as_str();
         let obligation = self.row.obligation;
+        let left = left_of(&self.row);
         let fields = [
             (DUE, Value::Day(obligation.due), Nowhere),
             (ACCOUNT, Value::Text(name), to_account(name)),
@@ -78,7 +79,11 @@ impl PageRow for AgendaRow {
             (RULE, Value::Rule(obligation.rule), Nowhere),
             (AMOUNT, Value::Amount(obligation.cents), Nowhere),
             (PAID, Value::Amount(self.row.paid), Nowhere),
-            (LEFT, Value::Amount(left_of(&self.row)), Nowhere),
+            (
+                LEFT,
+                Value::Amount(left),
+                to_payment(name, obligation.first, left),
+            ),
             (PAY_BY, Value::Day(self.pay_by), Nowhere),
             (VERDICT, Value::Verdict(self.row.verdict), Nowhere),
         ];
@@ -96,6 +101,7 @@ impl PageRow for DueRow {
         target: &mut W,
     ) -> Result<(), WriteFault> {
         let obligation = self.obligation;
+        let left = left_of(self);
         let fields = [
             (DUE, Value::Day(obligation.due), Nowhere),
             (ACCOUNT, Value::Text(account), Nowhere),
@@ -108,7 +114,11 @@ impl PageRow for DueRow {
             (RULE, Value::Rule(obligation.rule), Nowhere),
             (AMOUNT, Value::Amount(obligation.cents), Nowhere),
             (PAID, Value::Amount(self.paid), Nowhere),
-            (LEFT, Value::Amount(left_of(self)), Nowhere),
+            (
+                LEFT,
+                Value::Amount(left),
+                to_payment(account, obligation.first, left),
+            ),
             (MAKEUP, Value::Day(self.makeup), Nowhere),
             (VERDICT, Value::Verdict(self.verdict), Nowhere),
         ];

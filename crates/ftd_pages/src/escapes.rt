@@ -30,15 +30,23 @@ impl RowFormat<u8> for Escapes {
     }
 }
 
+/// Writes any bytes as they stand in a page, as `write_escaped` writes a text.
+#[tactic(auto, unfolding(crate::specs::Escapes::escaped))]
+pub fn write_escaped_bytes<W: Target>(bytes: &[u8], target: &mut W) -> Result<(), WriteFault>
+    ensures { Writes result (W.taken target.old) (W.taken target.new)
+        (W.failed target.new) (escaped bytes.now) }
+{
+    write_rows(&Escapes, bytes, target)
+}
+
 /// Writes any text as it stands in a page, also between quotes: nothing of it ends its place. Where
 /// the target fails, a prefix of that was written, and it fails nowhere else.
-#[tactic(auto, unfolding(crate::specs::Escapes::escaped))]
 pub fn write_escaped<W: Target>(text: &str, target: &mut W) -> Result<(), WriteFault>
     ensures writes { Writes result (W.taken target.old) (W.taken target.new)
         (W.failed target.new) (escaped text.now) }
     ensures inert { IsInert (escaped text.now) }
 {
-    write_rows(&Escapes, text.as_bytes(), target)
+    write_escaped_bytes(text.as_bytes(), target)
 }
 
 /// Writes a value as it stands in a page: as in a record of CSV, and escaped. Where the target

@@ -72,8 +72,8 @@ pub fn write_facts_page<W: Target>(
     write_facts_at(&alone, facts, target)
 }
 
-/// Writes the heading of the page of an account, the links to its lists, and answers, one after the
-/// other.
+/// Writes the heading of the page of an account, the links to its lists and forms, and answers, one
+/// after the other.
 #[tactic(auto, using(ftd_ports::proofs::WritingFacts::written_in_parts), unfolding(crate::specs::Facts::answers_of))]
 fn write_answers<W: Target>(
     frame: &Frame,
@@ -83,7 +83,8 @@ fn write_answers<W: Target>(
     target: &mut W,
 ) -> Result<(), WriteFault>
     ensures { Writes result (W.taken target.old) (W.taken target.new)
-        (W.failed target.new) (answers_of frame.now.ways account.now (flat_map shown title.now) answers.now) }
+        (W.failed target.new)
+        (answers_of frame.now.ways account.now (flat_map shown title.now) answers.now) }
 {
     write_page_heading(title, target)?;
     write_account_ways(frame.ways, account, target)?;
@@ -91,8 +92,9 @@ fn write_answers<W: Target>(
 }
 
 /// Writes the page of an account: what is told of it, one answer after the other, each as a section
-/// that shows what its own page shows. An answer that tells nothing has no section. It takes no memory but what the target takes. Where the
-/// target fails, a prefix of the page was written, and it fails nowhere else.
+/// that shows what its own page shows. An answer that tells nothing has no section. It takes no
+/// memory but what the target takes. Where the target fails, a prefix of the page was written, and
+/// it fails nowhere else.
 pub fn write_account_page<W: Target>(
     frame: &Frame,
     account: &str,

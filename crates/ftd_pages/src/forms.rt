@@ -124,7 +124,7 @@ fn write_form_fields<W: Target>(
 }
 
 /// Writes the form of a verb.
-fn write_form_of<W: Target>(
+pub(crate) fn write_form_of<W: Target>(
     verb: Verb,
     filled: &[Filled<'_>],
     target: &mut W,

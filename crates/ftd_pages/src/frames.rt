@@ -31,8 +31,8 @@ pub enum Style {
 pub enum Ways {
     /// There are none.
     Nowhere,
-    /// To what is owed as of today until a day, to what is due from today to that day, and to the
-    /// accounts.
+    /// To what is owed as of today until a day, to what is due from today to that day, to the
+    /// accounts, and to the forms.
     From {
         /// The day as of which the pages tell.
         today: Day,
@@ -86,7 +86,8 @@ fn write_ways_from<W: Target>(today: Day, until: Day, target: &mut W) -> Result<
         &last,
         b"/",
         &now,
-        b"/html\">Due</a> <a href=\"/lists/accounts/html\">Accounts</a></nav>\n",
+        b"/html\">Due</a> <a href=\"/lists/accounts/html\">Accounts</a> \
+          <a href=\"/forms\">Enter</a></nav>\n",
     ];
     write_pieces(target, &pieces)
 }

@@ -4,12 +4,12 @@ ghost use Rattle.std.specs.Prelude.{◌≡◌, Some};
 ghost use Rattle.std.specs.List.{flat_map};
 ghost use Rattle.ftd_ports.specs.Writing.{Writes};
 ghost use Rattle.ftd_answers.specs.Fields.{shown_as};
-ghost use Rattle.ftd_pages.specs.Links.{account_address, link, linked, reason_address};
+ghost use Rattle.ftd_pages.specs.Links.{account_address, link, linked, pay_if, reason_address};
 ghost use Rattle.ftd_pages.specs.Private.Cells.{address_of, shown};
 
 use crate::escapes::{Values, write_shown};
 use ftd_answers::{Value, write_rows};
-use ftd_days::Day;
+use ftd_days::{Cents, Day};
 use ftd_ports::{Target, WriteFault, write_all};
 
 /// Where a cell leads.
@@ -21,6 +21,8 @@ pub enum Way<'a> {
     Account(&'a str),
     /// To why the obligation of an account is so whose deposit period begins on a day.
     Obligation(&'a str, Day),
+    /// To the form of a payment of what is left of that obligation.
+    Payment(&'a str, Day, Cents),
 }
 
 /// The way to the page of an account.
@@ -35,6 +37,18 @@ pub fn to_reason<'a>(account: &'a str, first: Day) -> Way<'a>
     ensures { address_of result ≡ Some (reason_address account.now first) }
 {
     Way::Obligation(account, first)
+}
+
+/// The way to the form of a payment of what is left of the obligation of an account whose deposit
+/// period begins on a day. Where nothing is left it leads nowhere.
+pub fn to_payment<'a>(account: &'a str, first: Day, left: Cents) -> Way<'a>
+    ensures { address_of result ≡ pay_if account.now first left.0 }
+{
+    if left.0 == 0 {
+        Way::Nowhere
+    } else {
+        Way::Payment(account, first, left)
+    }
 }
 
 /// Writes a link: a value that leads to an address, whose parts are these.
@@ -79,6 +93,17 @@ pub fn write_linked<W: Target>(
                 Value::Text("/explain/"),
                 Value::Day(*first),
                 Value::Text("/html"),
+            ];
+            write_link(&address, value, target)
+        }
+        Way::Payment(account, first, left) => {
+            let address = [
+                Value::Text("/forms/pay/"),
+                Value::Text(account),
+                Value::Text("/"),
+                Value::Day(*first),
+                Value::Text("/"),
+                Value::Amount(*left),
             ];
             write_link(&address, value, target)
         }

@@ -36,6 +36,9 @@ input[type=checkbox]{width:1.4rem;min-height:1.4rem;margin:.2rem 0}
 button{padding:.35rem 1.1rem;background:var(--way);color:var(--paper);
 border-color:var(--way);font-weight:600;cursor:pointer}
 small{display:block;color:var(--soft);font-size:.88rem}
+pre{max-width:46rem;margin:0 0 .8rem;padding:.6rem .8rem;background:var(--wash);
+border-left:4px solid var(--line);font-size:.94rem;white-space:pre-wrap;overflow-wrap:anywhere}
+.bad{color:var(--late);font-weight:600}
 table{border-collapse:collapse;font-variant-numeric:tabular-nums}
 th,td{padding:.42rem .45rem;text-align:left;vertical-align:baseline;white-space:nowrap}
 thead th{border-bottom:2px solid var(--ink);color:var(--soft);font-size:.86rem;
