@@ -14,6 +14,8 @@ use Rattle.ftd_verbs.specs.declared.formats.AnswerFormat.{AnswerFormat}
 use Rattle.ftd_verbs.specs.declared.formats.AnswerFormat.TheVariants.{Plain, Page}
 use Rattle.ftd_http.specs.Asking.{is_for_page, is_page}
 use Rattle.ftd_http.specs.declared.ask.Inquiry.{Inquiry}
+use Rattle.ftd_http.specs.declared.ask.Payable.{Payable}
+use Rattle.ftd_verbs.specs.declared.rows.Verb.{Verb}
 use Rattle.ftd_http.specs.declared.ask.Inquiry.TheVariants as asked
 use Rattle.ftd_http.specs.declared.status.Status.TheVariants as status
 use Rattle.ftd_server.specs.Replying.{Responds, answered}
@@ -78,6 +80,9 @@ on_the_day goes today told now later asked.Home said is responds = responds
 on_the_day goes today told now later asked.Commands said is responds = responds
 on_the_day goes today told now later (asked.Journal account) said is responds = responds
 on_the_day goes today told now later (asked.Account account) said is responds = responds
+on_the_day goes today told now later asked.Forms said is responds = responds
+on_the_day goes today told now later (asked.Form verb account payable) said is responds = responds
+on_the_day goes today told now later (asked.Sent verb) said is responds = responds
 on_the_day goes today told now later asked.StyleSheet said is responds = responds
 on_the_day goes today told now later (asked.Asks (Plain format) request) said is
     (answer, went, so) = (answer, went, so ∙ plain today told (Plain format) answer refl)
@@ -85,22 +90,34 @@ on_the_day goes today told now later (asked.Asks Page request) said is responds 
     subst (λ (day : Option ℕ). Responds goes day now (asked.Asks Page request) said later) is
     responds
 
--- what is neither commands, nor a journal, nor the first page, nor that of an account is answered by
--- the desk alone
+-- What is not answered by the desk alone: commands, a journal, the first page, that of an account,
+-- and those of forms. None of these is asked.
+pub record IsForDesk (what : Inquiry) : Type 0 where
+  pub commands : what ≡ asked.Commands → ⊥
+  pub journal : (account : Option (List ℕ)) → what ≡ asked.Journal account → ⊥
+  pub home : what ≡ asked.Home → ⊥
+  pub account : (account : List ℕ) → what ≡ asked.Account account → ⊥
+  pub forms : what ≡ asked.Forms → ⊥
+  pub form : (verb : Verb) (account : Option (List ℕ)) (payable : Option Payable)
+      → what ≡ asked.Form verb account payable → ⊥
+  pub sent : (verb : Verb) → what ≡ asked.Sent verb → ⊥
+
+-- all else is answered by the desk alone
 pub by_desk : {S : Type 0} (g : store.Ghosts S) (told : Option ℕ) (old new : Desk S)
-    (db : List ℕ) (what : Inquiry) (body : List ℕ) (said : Said) → (what ≡ asked.Commands → ⊥)
-    → ((account : Option (List ℕ)) → what ≡ asked.Journal account → ⊥)
-    → (what ≡ asked.Home → ⊥)
-    → ((account : List ℕ) → what ≡ asked.Account account → ⊥)
+    (db : List ℕ) (what : Inquiry) (body : List ℕ) (said : Said) → IsForDesk what
     → Responds (handles g) told old what said new → RespondsOver g told old new db what body said
-by_desk g told old new db asked.NoRoute body said other none home own responds = responds
-by_desk g told old new db (asked.OtherMethod allow) body said other none home own responds = responds
-by_desk g told old new db asked.BadForm body said other none home own responds = responds
-by_desk g told old new db asked.Home body said other none home own responds = absurd (home refl)
-by_desk g told old new db asked.Commands body said other none home own responds = absurd (other refl)
-by_desk g told old new db (asked.Journal account) body said other none home own responds =
-    absurd (none account refl)
-by_desk g told old new db (asked.Account account) body said other none home own responds =
-    absurd (own account refl)
-by_desk g told old new db asked.StyleSheet body said other none home own responds = responds
-by_desk g told old new db (asked.Asks format request) body said other none home own responds = responds
+by_desk g told old new db asked.NoRoute body said its responds = responds
+by_desk g told old new db (asked.OtherMethod allow) body said its responds = responds
+by_desk g told old new db asked.BadForm body said its responds = responds
+by_desk g told old new db asked.Home body said its responds = absurd (its.home refl)
+by_desk g told old new db asked.Commands body said its responds = absurd (its.commands refl)
+by_desk g told old new db (asked.Journal account) body said its responds =
+    absurd (its.journal account refl)
+by_desk g told old new db (asked.Account account) body said its responds =
+    absurd (its.account account refl)
+by_desk g told old new db asked.Forms body said its responds = absurd (its.forms refl)
+by_desk g told old new db (asked.Form verb account payable) body said its responds =
+    absurd (its.form verb account payable refl)
+by_desk g told old new db (asked.Sent verb) body said its responds = absurd (its.sent verb refl)
+by_desk g told old new db asked.StyleSheet body said its responds = responds
+by_desk g told old new db (asked.Asks format request) body said its responds = responds

@@ -10,6 +10,8 @@ use Rattle.ftd_shell.specs.Scripts.{AnswersScript}
 use Rattle.ftd_shell.specs.Shells.{Ways, said_by, said_in}
 use Rattle.ftd_program.specs.declared.performing.JobEnd.{JobEnd}
 use Rattle.ftd_shell.specs.declared.shell.Shell.{Shell}
+use Rattle.ftd_forms.specs.Sent.{AnswersSent}
+use Rattle.ftd_forms.specs.Shown.{ShowsForm, forms_said}
 use Rattle.ftd_http.specs.declared.ask.Inquiry.{Inquiry}
 use Rattle.ftd_http.specs.declared.ask.Inquiry.TheVariants as asked
 use Rattle.ftd_server.specs.Accounts.{TellsAccount}
@@ -52,8 +54,9 @@ module _ {S : Type 0} (g : store.Ghosts S) where
     pub is : said ≡ written_response (said_in end.out) (said_in end.err) end.status
 
   -- Commands are answered by the shell, and who asks for a journal is told its lines. The first
-  -- page leads to what is owed on the day that the clock told last, the page of an account is that
-  -- of this day, and all else is answered by the desk alone, whose pages have the ways of the day.
+  -- page leads to what is owed on the day that the clock told last, the pages of an account and of
+  -- forms are those of this day, and all else is answered by the desk alone, whose pages have the
+  -- ways of the day.
   abbrev pub RespondsOver : Option ℕ → Desk S → Desk S → List ℕ → Inquiry → List ℕ → Said → Type 0
   RespondsOver told old new db asked.Commands body said = RespondsToBody old new db body said
   RespondsOver told old new db (asked.Journal account) body said =
@@ -61,6 +64,11 @@ module _ {S : Type 0} (g : store.Ghosts S) where
   RespondsOver told old new db asked.Home body said = (new ≡ old) × (said ≡ home told)
   RespondsOver told old new db (asked.Account account) body said =
       TellsAccount g told old new account said
+  RespondsOver told old new db asked.Forms body said = (new ≡ old) × (said ≡ forms_said told)
+  RespondsOver told old new db (asked.Form verb account payable) body said =
+      ShowsForm g told old new verb account payable said
+  RespondsOver told old new db (asked.Sent verb) body said =
+      AnswersSent g db told old new verb body said
   RespondsOver told old new db other body said =
       RespondsByRequests (handles g) told old other said new
 

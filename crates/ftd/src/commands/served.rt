@@ -12,6 +12,7 @@ use crate::journal::journal_response;
 use ftd_cli::DayClock;
 use ftd_days::Day;
 use ftd_desk::Desk;
+use ftd_forms::{Named, Setting, form_list_response, form_response, sent_response};
 use ftd_http::Inquiry;
 use ftd_ports::Port;
 use ftd_program::JobEnd;
@@ -119,8 +120,9 @@ fn page_day<C: DayClock>(clock: &mut C, asked: &Inquiry) -> Option<Day>
     }
 }
 
-/// The way in which a shell answers messages: commands itself, the first page by its clock, that of
-/// an account by its clock and its desk, journals out of its desk, and requests by it.
+/// The way in which a shell answers messages: commands itself, the first page by its clock, those
+/// of an account and of forms by its clock and its desk, journals out of its desk, and requests by
+/// it.
 pub(crate) struct ByShell;
 
 impl<S: Alter, F: Inputs + DayClock> Machine<ByShell> for Shell<S, F> {
@@ -143,6 +145,23 @@ impl<S: Alter, F: Inputs + DayClock> Machine<ByShell> for Shell<S, F> {
             Inquiry::Account(account) => {
                 let day = self.inputs.today();
                 account_response(alloc, &mut self.desk, day, account)
+            }
+            Inquiry::Forms => form_list_response(alloc, self.inputs.today()),
+            Inquiry::Form {
+                verb,
+                account,
+                payable,
+            } => {
+                let day = self.inputs.today();
+                let named = Named { account, payable };
+                Ok(form_response(alloc, &mut self.desk, day, *verb, &named))
+            }
+            Inquiry::Sent(verb) => {
+                let setting = Setting {
+                    db: &self.db,
+                    today: self.inputs.today(),
+                };
+                Ok(sent_response(alloc, &mut self.desk, &setting, *verb, body))
             }
             _ => {
                 let today = page_day(&mut self.inputs, asked);

@@ -1,0 +1,2 @@
+pub mod ShownFacts
+pub mod SentFacts
