@@ -1,6 +1,6 @@
 //! The progress of an import, on the terminal.
 
-use ftd_program::Progress;
+use ftd_imports::Progress;
 use std::io::IsTerminal;
 use std::time::{Duration, Instant};
 

@@ -2,7 +2,7 @@
 use Rattle.std.proofs.Common.{◌≡◌, ℕ, [], ◌∷◌, ◌++◌, sym, ap, ◌∙◌, append_assoc}
 use Rattle.std.specs.Prelude.{codes}
 use Rattle.std.specs.Fmt.{decimal}
-use Rattle.ftd_program.specs.declared.fault.PlainFault.TheVariants.{Malformed, RunDiffers}
+use Rattle.ftd_plain.specs.declared.fault.PlainFault.TheVariants.{Malformed, RunDiffers}
 use Rattle.ftd_program.specs.PlainLines.{fault_line, record_line, run_line}
 
 pub record_is : (number field : ℕ) → record_line number field ≡ fault_line (Malformed number field)

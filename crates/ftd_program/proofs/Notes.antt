@@ -2,7 +2,7 @@
 use Rattle.std.proofs.Common.{◌≡◌, ℕ, ◌+◌, ◌<◌, List, ◌∷◌, ◌++◌, length, drop, get_or, suc, add-one}
 use Rattle.std.proofs.Common.{drop-cons, sym, ap, ◌∙◌}
 use Rattle.std.specs.List.{flat_map}
-use Rattle.ftd_program.specs.declared.summary.Note.{Note}
+use Rattle.ftd_imports.specs.declared.summary.Note.{Note}
 use Rattle.ftd_program.specs.Summaries.{note_text}
 
 pub note_on : (notes : List Note) (i : ℕ) (note : Note) → i < length notes

@@ -39,7 +39,7 @@ use Rattle.ftd_program.specs.OpenYears.{has_open, year_request_if}
 use Rattle.ftd_program.specs.OpenYears.{AreYearRequests, year_request_of, year_requests}
 use Rattle.ftd_program.specs.OpenYears.{AnswersEach, AsksEach, AsksOne, PrintsLine, YearAnswer}
 use Rattle.ftd_program.specs.OpenYears.{answer_line, count_of, failure_in, line_text, one_if, tally}
-use Rattle.ftd_program.specs.Outcomes.{is_already, is_posted, is_refused}
+use Rattle.ftd_imports.specs.Outcomes.{is_already, is_posted, is_refused}
 use Rattle.ftd_program.specs.declared.open_years.OpenCounts.{OpenCounts}
 
 -- ---- what is kept, as it is told

@@ -12,7 +12,7 @@ use Rattle.std.proofs.lemmas.List.Elements.{filter-append}
 use Rattle.std.proofs.lemmas.List.FromFn.{map-range_with_len_more}
 use Rattle.ftd_machine.specs.Refusals.{number_of}
 use Rattle.ftd_machine.specs.State.{State}
-use Rattle.ftd_program.specs.declared.refusals.RefusedRecord.{RefusedRecord}
+use Rattle.ftd_imports.specs.declared.refusals.RefusedRecord.{RefusedRecord}
 use Rattle.ftd_program.specs.RecordNotes.{more_of_kind, of_kind, record_line, records_in}
 use Rattle.ftd_program.specs.declared.record_notes.RecordLine.{RecordLine}
 

@@ -4,7 +4,7 @@ use Rattle.std.specs.Fmt.{decimal}
 use Rattle.std.specs.List.{concat, flat_map}
 use Rattle.ftd_days.specs.Text.{day_text}
 use Rattle.ftd_rules.specs.declared.Obligation.{Obligation}
-use Rattle.ftd_program.specs.declared.added.AccountAdded.{AccountAdded}
+use Rattle.ftd_imports.specs.declared.added.AccountAdded.{AccountAdded}
 
 -- the earliest of a day and the due dates of the rows
 abbrev pub earliest : ℕ → List Obligation → ℕ

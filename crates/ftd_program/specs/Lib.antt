@@ -1,15 +1,3 @@
-pub mod Exports
-pub mod Added
-pub mod Changed
-pub mod Collections
-pub mod Outcomes
-pub mod Imports
-pub mod Lists
-pub mod Refused
-pub mod Trials
-pub mod Faults
-pub mod Plain
-pub mod Taking
 pub mod AddedNotes
 pub mod Differences
 pub mod Mending
@@ -24,11 +12,6 @@ pub mod PlainLines
 pub mod RecordNotes
 pub mod Summaries
 pub use Rattle.ftd_cli.specs.Table
-pub use Rattle.ftd_csv.specs.Answers
-pub use Rattle.ftd_csv.specs.Places
-pub use Rattle.ftd_csv.specs.Records
-pub use Rattle.ftd_days.specs.Calendar
-pub use Rattle.ftd_days.specs.Holidays
 pub use Rattle.ftd_days.specs.Text
 pub use Rattle.ftd_desk.specs.Desks
 pub use Rattle.ftd_desk.specs.Telling
@@ -39,4 +22,3 @@ pub use Rattle.ftd_replies.specs.Hints
 pub use Rattle.ftd_replies.specs.Putting
 pub use Rattle.ftd_replies.specs.Refusals
 pub use Rattle.ftd_replies.specs.Replies
-pub use Rattle.ftd_rules.specs.Liability

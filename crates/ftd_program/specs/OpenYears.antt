@@ -34,7 +34,7 @@ use Rattle.ftd_replies.specs.Replies.{reply_text}
 use Rattle.ftd_replies.specs.declared.hints.HintFacts.{HintFacts}
 use Rattle.ftd_replies.specs.declared.hints.HintFacts.TheVariants.{Nothing}
 use Rattle.ftd_program.specs.Mending.{KnowsAfter, or_nothing}
-use Rattle.ftd_program.specs.Outcomes.{is_already, is_posted, is_refused}
+use Rattle.ftd_imports.specs.Outcomes.{is_already, is_posted, is_refused}
 use Rattle.ftd_verbs.specs.Formats.{as_text}
 use Rattle.ftd_program.specs.Performing.{FailsOutput, PrintsOut, PrintsRefusal}
 use Rattle.ftd_program.specs.declared.open_years.OpenCounts.{OpenCounts}

@@ -27,12 +27,12 @@ use Rattle.ftd_desk.specs.declared.desk.Desk.{Desk}
 use Rattle.ftd_desk.specs.Telling.{StandsAsBefore}
 use Rattle.ftd_desk.specs.Words.{Handles}
 use Rattle.ftd_csv.specs.declared.sheets.Sheet.{Sheet}
-use Rattle.ftd_program.specs.Added.{added_by}
-use Rattle.ftd_program.specs.Imports.{Imports, Stops}
-use Rattle.ftd_program.specs.Trials.{FailsTrial, WouldImport}
-use Rattle.ftd_program.specs.declared.summary.StopCause.{StopCause}
-use Rattle.ftd_program.specs.declared.summary.ImportStop.{ImportStop}
-use Rattle.ftd_program.specs.declared.summary.Summary.{Summary}
+use Rattle.ftd_imports.specs.Added.{added_by}
+use Rattle.ftd_imports.specs.Imports.{Imports, Stops}
+use Rattle.ftd_imports.specs.Trials.{FailsTrial, WouldImport}
+use Rattle.ftd_imports.specs.declared.summary.StopCause.{StopCause}
+use Rattle.ftd_imports.specs.declared.summary.ImportStop.{ImportStop}
+use Rattle.ftd_imports.specs.declared.summary.Summary.{Summary}
 use Rattle.ftd_verbs.specs.Asked.{greatest_number}
 use Rattle.ftd_verbs.specs.Formats.{as_text}
 use Rattle.ftd_verbs.specs.declared.formats.AnswerFormat.{AnswerFormat}

@@ -3,10 +3,10 @@ use Rattle.std.specs.Prelude.{◌≡◌, ◌⊎◌, ℕ, Bool, true, List, [], �
 use Rattle.std.specs.Prelude.{MatchResult, codes}
 use Rattle.std.specs.Io.KnownBytes.{Appends}
 use Rattle.std.specs.Fmt.{decimal}
-use Rattle.ftd_program.specs.Faults.{fault_text}
-use Rattle.ftd_program.specs.Plain.{PlainFails, PlainGives}
-use Rattle.ftd_program.specs.declared.fault.PlainFault.{PlainFault}
-use Rattle.ftd_program.specs.declared.fault.PlainFault.TheVariants as fault
+use Rattle.ftd_plain.specs.Faults.{fault_text}
+use Rattle.ftd_plain.specs.Plain.{PlainFails, PlainGives}
+use Rattle.ftd_plain.specs.declared.fault.PlainFault.{PlainFault}
+use Rattle.ftd_plain.specs.declared.fault.PlainFault.TheVariants as fault
 use Rattle.ftd_csv.specs.declared.sheets.Sheet.TheVariants.{Runs}
 use Rattle.ftd_cli.specs.declared.tasks.PlainTask.{PlainTask}
 use Rattle.ftd_ports.specs.Writing.{WritesPrefix}

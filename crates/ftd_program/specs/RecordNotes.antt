@@ -11,9 +11,9 @@ use Rattle.ftd_machine.specs.declared.entries.ReturnPeriod.TheVariants as period
 use Rattle.ftd_days.specs.Text.{quarter_text}
 use Rattle.ftd_desk.specs.Desks.{Held, KeepsIfOpen}
 use Rattle.ftd_desk.specs.Telling.{StandsAsBefore}
-use Rattle.ftd_program.specs.declared.refusals.RecordEntry.{RecordEntry}
-use Rattle.ftd_program.specs.declared.refusals.RecordEntry.TheVariants as entry
-use Rattle.ftd_program.specs.declared.refusals.RefusedRecord.{RefusedRecord}
+use Rattle.ftd_imports.specs.declared.refusals.RecordEntry.{RecordEntry}
+use Rattle.ftd_imports.specs.declared.refusals.RecordEntry.TheVariants as entry
+use Rattle.ftd_imports.specs.declared.refusals.RefusedRecord.{RefusedRecord}
 use Rattle.ftd_machine.specs.Refusals.{name_text, number_of}
 use Rattle.ftd_machine.specs.Runs.{IsFault}
 use Rattle.ftd_machine.specs.State.{State}

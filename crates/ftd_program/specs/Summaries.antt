@@ -3,12 +3,12 @@ use Rattle.std.specs.Prelude.{ℕ, ◌==◌, ◌&&◌, if◌then◌else◌, List
 use Rattle.std.specs.Fmt.{decimal}
 use Rattle.std.specs.List.{concat, flat_map}
 use Rattle.ftd_csv.specs.declared.sheets.Sheet.{Sheet}
-use Rattle.ftd_program.specs.declared.summary.Finding.{Finding}
-use Rattle.ftd_program.specs.declared.summary.Finding.TheVariants.{Malformed, Refused}
-use Rattle.ftd_program.specs.declared.summary.Note.{Note}
-use Rattle.ftd_program.specs.declared.summary.StopCause.{StopCause}
-use Rattle.ftd_program.specs.declared.summary.StopCause.TheVariants as cause
-use Rattle.ftd_program.specs.declared.summary.Summary.{Summary}
+use Rattle.ftd_imports.specs.declared.summary.Finding.{Finding}
+use Rattle.ftd_imports.specs.declared.summary.Finding.TheVariants.{Malformed, Refused}
+use Rattle.ftd_imports.specs.declared.summary.Note.{Note}
+use Rattle.ftd_imports.specs.declared.summary.StopCause.{StopCause}
+use Rattle.ftd_imports.specs.declared.summary.StopCause.TheVariants as cause
+use Rattle.ftd_imports.specs.declared.summary.Summary.{Summary}
 use Rattle.ftd_csv.specs.Headers.{header_hint}
 use Rattle.ftd_replies.specs.Refusals.{refusal_text}
 

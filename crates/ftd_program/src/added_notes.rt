@@ -2,12 +2,12 @@
 
 ghost use Rattle.std.specs.Prelude.{◌≡◌, []};
 ghost use Rattle.ftd_ports.specs.Writing.{Writes, WritesPrefix};
-ghost use Rattle.ftd_program.specs.Added.{added_by};
+ghost use Rattle.ftd_imports.specs.Added.{added_by};
 ghost use Rattle.ftd_program.specs.AddedNotes.{account_note, added_notes, counted_note, earliest};
 
-use crate::{AccountAdded, AccountChange, Collection};
 use ftd_answers::{RowFormat, day_bytes, write_rows};
 use ftd_days::Day;
+use ftd_imports::{AccountAdded, AccountChange, Collection};
 use ftd_ports::{Target, WriteFault, write_all, write_pieces};
 use ftd_rules::Obligation;
 use itoa::Buffer;
@@ -79,7 +79,7 @@ pub(crate) fn put_added<E: Target>(changes: &Collection<AccountChange>, err: &mu
     if !changes.are_all || changes.entries.is_empty() {
         return;
     }
-    let Ok(accounts) = crate::added_by(changes) else {
+    let Ok(accounts) = ftd_imports::added_by(changes) else {
         return;
     };
     // Where standard error fails, the status still tells.

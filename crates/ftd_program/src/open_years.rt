@@ -9,7 +9,7 @@ ghost use Rattle.ftd_replies.specs.Putting.{IsPut};
 ghost use Rattle.ftd_program.specs.OpenYears.{OpensEach, OpensYears, PrintsLine, PutsAfter};
 ghost use Rattle.ftd_program.specs.OpenYears.{answer_text, counts_text, failure_in, line_text};
 ghost use Rattle.ftd_program.specs.OpenYears.{none_text, one_if, status_for, tally};
-ghost use Rattle.ftd_program.specs.Outcomes.{is_already, is_posted, is_refused, most_counted};
+ghost use Rattle.ftd_imports.specs.Outcomes.{is_already, is_posted, is_refused, most_counted};
 ghost use Rattle.ftd_program.specs.Performing.{PrintsOut};
 
 use crate::mending::{known_for, or_nothing};

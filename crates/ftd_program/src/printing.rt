@@ -7,9 +7,9 @@ ghost use Rattle.ftd_program.specs.PlainLines.{IsHinted, PerformsPlain, PrintsFa
 ghost use Rattle.ftd_program.specs.PlainLines.{fault_line, fault_status, record_line, run_line};
 
 use crate::performing::{JobEnd, fail_output};
-use crate::{PlainFault, plain};
 use ftd_cli::PlainTask;
 use ftd_csv::{Sheet, write_header_hint, write_record_hints};
+use ftd_plain::{PlainFault, plain};
 use ftd_ports::{Target, WriteFault, write_all, write_pieces};
 use itoa::Buffer;
 use std::alloc::Global;

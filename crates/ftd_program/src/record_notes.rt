@@ -16,9 +16,9 @@ ghost use Rattle.ftd_program.specs.RecordNotes.{owner_text, record_line, record_
 ghost use Rattle.ftd_program.specs.RecordNotes.{PutsRefusals, records_in};
 
 use crate::differences::{account_difference, payment_difference, run_difference};
-use crate::{Collection, RecordEntry, RefusedRecord};
 use ftd_answers::{RowFormat, quarter_bytes, write_rows};
 use ftd_desk::Desk;
+use ftd_imports::{Collection, RecordEntry, RefusedRecord};
 use ftd_machine::{AccountName, Refusal, ReturnPeriod};
 use ftd_ports::{Target, WriteFault, write_all, write_pieces};
 use ftd_replies::{Differing, write_difference};

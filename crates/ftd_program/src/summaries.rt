@@ -4,8 +4,8 @@ ghost use Rattle.ftd_ports.specs.Writing.{Writes};
 ghost use Rattle.ftd_program.specs.Summaries.{bad_header_text, counts_text, field_text};
 ghost use Rattle.ftd_program.specs.Summaries.{finding_text, note_text, record_text, summary_text};
 
-use crate::{Finding, Note, Summary};
 use ftd_csv::{Sheet, write_header_hint};
+use ftd_imports::{Finding, Note, Summary};
 use ftd_ports::{Target, WriteFault, write_all, write_pieces};
 use ftd_replies::write_refusal;
 use itoa::Buffer;

@@ -22,8 +22,9 @@ use ftd_cli::{
     CliFault, DayClock, Job, Line, Piece, Task, command_words, decide_today, read_line, shown_words,
 };
 use ftd_desk::Desk;
+use ftd_imports::Quiet;
 use ftd_ports::{Port, Target, WriteFault, write_pieces};
-use ftd_program::{JobEnd, Quiet, fail_output, perform, print_line};
+use ftd_program::{JobEnd, fail_output, perform, print_line};
 use ftd_replies::{put, request_in, tell};
 use ftd_verbs::TEXT;
 use itoa::Buffer;

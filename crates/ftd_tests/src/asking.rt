@@ -2,8 +2,9 @@
 
 use ftd_cli::{LocalTask, Task, decide};
 use ftd_desk::Desk;
+use ftd_imports::Quiet;
 use ftd_ports::Port;
-use ftd_program::{Quiet, perform};
+use ftd_program::perform;
 use sqlite::Alter;
 use std::alloc::Global;
 use std::process::Abort;

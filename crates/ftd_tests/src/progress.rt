@@ -3,7 +3,7 @@
 use crate::desks::{ASH, desk};
 use ftd_csv::Sheet;
 use ftd_desk::Desk;
-use ftd_program::{Progress, import};
+use ftd_imports::{Progress, import};
 use sqlite::MemStore;
 use std::alloc::Global;
 use std::process::Abort;

@@ -1,5 +1,5 @@
 use Rattle.std.proofs.Common.{◌∙◌, ◌+◌, ◌-◌, ap, arith, sym}
-use Rattle.ftd_program.specs.declared.refusals.RefusedRecord.{RefusedRecord}
+use Rattle.ftd_imports.specs.declared.refusals.RefusedRecord.{RefusedRecord}
 use Rattle.ftd_machine.specs.Refusals.{number_of}
 use Rattle.ftd_program.proofs.RecordFacts.{not_few}
 use Rattle.ftd_program.proofs.record_notes.are_few.Goals as goal

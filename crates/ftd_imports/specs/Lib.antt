@@ -1,0 +1,14 @@
+pub mod Exports
+pub mod Added
+pub mod Changed
+pub mod Collections
+pub mod Outcomes
+pub mod Imports
+pub mod Lists
+pub mod Refused
+pub mod Trials
+pub use Rattle.ftd_csv.specs.Answers
+pub use Rattle.ftd_csv.specs.Places
+pub use Rattle.ftd_csv.specs.Records
+pub use Rattle.ftd_desk.specs.Desks
+pub use Rattle.ftd_desk.specs.Telling

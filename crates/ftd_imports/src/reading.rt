@@ -1,0 +1,85 @@
+//! Records are read into lists, which go to the desk together.
+
+ghost use Rattle.std.specs.Prelude.{◌≡◌, ◌≤◌, ◌++◌, ◌∷◌, [], ℕ, List, IfOk, MatchResult, length};
+ghost use Rattle.ftd_csv.specs.Answers.{RecordsFail};
+ghost use Rattle.ftd_csv.specs.Places.{CanAdvance, Opens, place_of, rows_after};
+ghost use Rattle.ftd_csv.specs.declared.entries.Content.{Content};
+ghost use Rattle.ftd_imports.specs.Lists.{IsListOf, TakesList};
+
+use ftd_csv::{Content, RecordFault, Records, Sheet};
+use ftd_machine::Request;
+use std::alloc::{AllocError, Global};
+
+/// The number of a record, and its least field that is bad, if it has one.
+#[derive(Clone, Copy, Debug)]
+pub(crate) struct Place {
+    pub(crate) number: u32,
+    pub(crate) malformed: Option<u8>,
+}
+
+/// Some records: the place of each, and the posts of those that enter something.
+#[derive(Drop)]
+pub(crate) struct RecordList {
+    pub(crate) places: Vec<Place>,
+    pub(crate) posts: Vec<Request>,
+}
+
+impl RecordList {
+    /// Takes the record at which the records stand.
+    fn take(&mut self, alloc: Global, records: &Records<'_>) -> Result<(), AllocError>
+        ensures { (before : List (ℕ × Content)) → IsListOf before self.old → IfOk result
+            (λ _. IsListOf (before ++ place_of records.now ∷ []) self.new) }
+    {
+        let number = records.number();
+        match records.entry(alloc)? {
+            Content::Entry(post) => {
+                self.posts.push(post)?;
+                let malformed = None;
+                self.places.push(Place { number, malformed })?;
+            }
+            Content::Malformed(field) => {
+                let malformed = Some(field);
+                self.places.push(Place { number, malformed })?;
+            }
+        }
+        Ok(())
+    }
+}
+
+/// So many of the next records. There are as many.
+pub(crate) fn read_list(
+    alloc: Global,
+    records: &mut Records<'_>,
+    count: usize,
+) -> Result<RecordList, AllocError>
+    requires can { CanAdvance records.old }
+    requires there { count ≤ length (rows_after records.old) }
+    ensures { IfOk result (λ list. TakesList records.old records.new count list) }
+{
+    let mut list = RecordList {
+        places: Vec::new(alloc),
+        posts: Vec::new(alloc),
+    };
+    for _ in 0..count {
+        let found = records.advance()?;
+        prove!(found);
+        list.take(alloc, records)?;
+    }
+    Ok(list)
+}
+
+/// The records of a text of the sheet, and how many it has.
+pub(crate) fn count_records(
+    alloc: Global,
+    sheet: Sheet,
+    text: &[u8],
+) -> Result<(Records<'_>, usize), RecordFault>
+    ensures { MatchResult result
+        (λ counted. Opens sheet text.now counted.0
+        × (counted.1 ≡ length (rows_after counted.0)))
+        (λ fault. RecordsFail sheet text.now fault) }
+{
+    let all = Records::open(alloc, sheet, text)?.count()?;
+    let records = Records::open(alloc, sheet, text)?;
+    Ok((records, all))
+}

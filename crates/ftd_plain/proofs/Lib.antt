@@ -1,0 +1,4 @@
+pub mod Calendars
+pub mod Members
+pub mod Sums
+pub mod TakingFacts

@@ -1,8 +1,0 @@
-use Rattle.std.proofs.Common.{◌≡◌, take}
-use Rattle.std.specs.Prelude.{filter, not}
-use Rattle.ftd_program.specs.Added.{removes}
-use Rattle.ftd_program.proofs.added.rows_then.Given as goal
-
-abbrev pub invariant-loop-row : goal.invariant-loop-row
-invariant-loop-row l =
-    l.then.items ≡ filter (λ o. not (removes o.first l.change)) (take l.row-index l.rows)

@@ -1,6 +1,0 @@
-use Rattle.std.proofs.Common.{◌≡◌, take}
-use Rattle.ftd_program.specs.Added.{changes_in, still_added}
-use Rattle.ftd_program.proofs.added.still_added.Given as goal
-
-abbrev pub invariant-loop-change : goal.invariant-loop-change
-invariant-loop-change l = l.rows.items ≡ still_added (changes_in (take l.change-index l.own))
