@@ -18,7 +18,7 @@ use Rattle.ftd_http.specs.declared.ask.Payable.{Payable}
 use Rattle.ftd_verbs.specs.declared.rows.Verb.{Verb}
 use Rattle.ftd_http.specs.declared.ask.Inquiry.TheVariants as asked
 use Rattle.ftd_http.specs.declared.status.Status.TheVariants as status
-use Rattle.ftd_server.specs.Replying.{Responds, answered}
+use Rattle.ftd_server.specs.Replying.{Responds, account_in, answered}
 use Rattle.ftd_server.specs.Responses.{Said, bare, json}
 use Rattle.ftd_server.specs.Tables.{handles}
 use Rattle.ftd.specs.Commands.{RespondsOver}
@@ -59,14 +59,15 @@ pub texts : (out err : List ℕ) (exit : ℕ) → IsUtf8 out → IsUtf8 err
 texts out err exit is also = rw (is_utf8-from_IsUtf8 out is, is_utf8-from_IsUtf8 err also) refl
 
 -- an answer in a format that is no page has no day
-plain : (today told : Option ℕ) (format : AnswerFormat) (answer : Answer) → is_page format ≡ false
-    → answered today format answer ≡ answered told format answer
-plain today told (Plain format) (Ok reply.Done) is_none = refl
-plain today told (Plain format) (Ok reply.Already) is_none = refl
-plain today told (Plain format) (Ok (reply.Posted difference)) is_none = refl
-plain today told (Plain format) (Ok (reply.Told facts)) is_none = refl
-plain today told (Plain format) (Err refusal) is_none = refl
-plain today told Page answer is_none = absurd (true≢false is_none)
+plain : (today told : Option ℕ) (format : AnswerFormat) (account : List ℕ) (answer : Answer)
+    → is_page format ≡ false
+    → answered today format account answer ≡ answered told format account answer
+plain today told (Plain format) account (Ok reply.Done) is_none = refl
+plain today told (Plain format) account (Ok reply.Already) is_none = refl
+plain today told (Plain format) account (Ok (reply.Posted difference)) is_none = refl
+plain today told (Plain format) account (Ok (reply.Told facts)) is_none = refl
+plain today told (Plain format) account (Err refusal) is_none = refl
+plain today told Page account answer is_none = absurd (true≢false is_none)
 
 -- so the day that is told to pages alone is as good as one that is told to all
 pub on_the_day : {M : Type 0} (goes : M → Request → Answer → M → Type 0) (today told : Option ℕ)
@@ -85,7 +86,8 @@ on_the_day goes today told now later (asked.Form verb account payable) said is r
 on_the_day goes today told now later (asked.Sent verb) said is responds = responds
 on_the_day goes today told now later asked.StyleSheet said is responds = responds
 on_the_day goes today told now later (asked.Asks (Plain format) request) said is
-    (answer, went, so) = (answer, went, so ∙ plain today told (Plain format) answer refl)
+    (answer, went, so) =
+    (answer, went, so ∙ plain today told (Plain format) (account_in request) answer refl)
 on_the_day goes today told now later (asked.Asks Page request) said is responds =
     subst (λ (day : Option ℕ). Responds goes day now (asked.Asks Page request) said later) is
     responds

@@ -3,8 +3,8 @@ use Rattle.std.proofs.Common.{◌≡◌, ◌∙◌, ◌==◌, ℕ, List, Option,
 use Rattle.std.specs.Prelude.{IfOk}
 use Rattle.ftd_http.specs.Controls.{Typed}
 use Rattle.ftd_http.specs.declared.status.Status.TheVariants.{BadRequest}
-use Rattle.ftd_pages.specs.declared.sent_forms.Outcome.{Outcome}
-use Rattle.ftd_pages.specs.declared.sent_forms.Outcome.TheVariants.{Bad}
+use Rattle.ftd_site.specs.declared.sent_forms.Outcome.{Outcome}
+use Rattle.ftd_site.specs.declared.sent_forms.Outcome.TheVariants.{Bad}
 use Rattle.ftd_server.specs.Responses.{Said, said_of}
 use Rattle.ftd_server.specs.declared.response.Response.{Response}
 use Rattle.ftd_verbs.specs.declared.field.Field.{Field}

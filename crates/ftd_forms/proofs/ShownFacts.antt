@@ -5,7 +5,7 @@ use Rattle.sqlite.specs.Store as store
 use Rattle.ftd_desk.specs.Desks.{held}
 use Rattle.ftd_desk.specs.declared.desk.Desk.{Desk}
 use Rattle.ftd_http.specs.declared.ask.Payable.{Payable}
-use Rattle.ftd_pages.specs.Forms.{has_form}
+use Rattle.ftd_site.specs.Forms.{has_form}
 use Rattle.ftd_server.specs.Responses.{Said, said_of}
 use Rattle.ftd_server.specs.declared.response.Response.{Response}
 use Rattle.ftd_verbs.specs.declared.rows.Verb.{Verb}

@@ -14,12 +14,12 @@ use Rattle.ftd_http.specs.FormFields.{request_of_form}
 use Rattle.ftd_http.specs.declared.status.Status.{Status}
 use Rattle.ftd_http.specs.declared.status.Status.TheVariants as status
 use Rattle.ftd_machine.specs.declared.requests.Request.{Request}
-use Rattle.ftd_pages.specs.Controls.{pair_of}
-use Rattle.ftd_pages.specs.Forms.{has_form}
-use Rattle.ftd_pages.specs.SentForms.{sent_page}
-use Rattle.ftd_pages.specs.declared.controls.Filled.{Filled}
-use Rattle.ftd_pages.specs.declared.sent_forms.Outcome.{Outcome}
-use Rattle.ftd_pages.specs.declared.sent_forms.Outcome.TheVariants as outcome
+use Rattle.ftd_site.specs.Controls.{pair_of}
+use Rattle.ftd_site.specs.Forms.{has_form}
+use Rattle.ftd_site.specs.SentForms.{sent_page}
+use Rattle.ftd_site.specs.declared.controls.Filled.{Filled}
+use Rattle.ftd_site.specs.declared.sent_forms.Outcome.{Outcome}
+use Rattle.ftd_site.specs.declared.sent_forms.Outcome.TheVariants as outcome
 use Rattle.ftd_program.specs.Doing as doing
 use Rattle.ftd_program.specs.declared.performing.JobEnd.{JobEnd}
 use Rattle.ftd_server.specs.Replying.{server_frame}

@@ -5,10 +5,10 @@ use Rattle.sqlite.specs.Store as store
 use Rattle.ftd_desk.specs.Desks.{held}
 use Rattle.ftd_desk.specs.declared.desk.Desk.{Desk}
 use Rattle.ftd_http.specs.declared.status.Status.TheVariants as status
-use Rattle.ftd_pages.specs.Controls.{pair_of}
-use Rattle.ftd_pages.specs.FormLists.{form_list}
-use Rattle.ftd_pages.specs.Forms.{form_page, has_form}
-use Rattle.ftd_pages.specs.declared.controls.Filled.{Filled}
+use Rattle.ftd_site.specs.Controls.{pair_of}
+use Rattle.ftd_site.specs.FormLists.{form_list}
+use Rattle.ftd_site.specs.Forms.{form_page, has_form}
+use Rattle.ftd_site.specs.declared.controls.Filled.{Filled}
 use Rattle.ftd_verbs.specs.declared.rows.Verb.{Verb}
 use Rattle.ftd_server.specs.Replying.{server_frame}
 use Rattle.ftd_server.specs.Responses.{Said, bare, page, said_of}

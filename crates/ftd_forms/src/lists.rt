@@ -6,9 +6,9 @@ ghost use Rattle.ftd_server.specs.Responses.{said_of};
 
 use ftd_days::Day;
 use ftd_http::Status;
-use ftd_pages::write_form_list;
 use ftd_ports::Port;
 use ftd_server::{Response, page_response, server_frame};
+use ftd_site::write_form_list;
 use std::alloc::{AllocError, Global};
 
 /// The response with the page that lists forms, on the day of today, if it is known. An error says

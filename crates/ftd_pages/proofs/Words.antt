@@ -1,19 +1,12 @@
--- Each field of a list has its word, so that no column of a page stands without a head; and each
--- form has its title, its sentence, and a label and a help for each of its fields.
-use Rattle.std.proofs.Common.{◌≡◌, ℕ, List, [], length, refl, Bool, ◌&&◌, ◌||◌, ◌==◌, nat_lt}
-use Rattle.std.specs.List.{filter}
+-- Each field of a list has its word, so that no column of a page stands without a head.
+use Rattle.std.proofs.Common.{◌≡◌, ℕ, List, length, refl}
 use Rattle.ftd_rules.specs.declared.Obligation.{Obligation}
 use Rattle.ftd_machine.specs.declared.facts.DaySchedule.{DaySchedule}
 use Rattle.ftd_answers.specs.ExplanationForms.{obligation_fields, status_fields}
 use Rattle.ftd_answers.specs.Fields.{told_by}
-use Rattle.ftd_verbs.specs.Rows.{all_verbs, row_of}
-use Rattle.ftd_verbs.specs.declared.field.Field.{Field}
-use Rattle.ftd_verbs.specs.declared.rows.Verb.{Verb}
 use Rattle.ftd_pages.specs.Days.{day_shape}
 use Rattle.ftd_pages.specs.Dues.{agenda_shape, due_shape}
 use Rattle.ftd_pages.specs.Explanations.{counted_shape, obligation_shape, payday_shape}
-use Rattle.ftd_pages.specs.FormWords.{help_of, label_of, sentence_of, title_of}
-use Rattle.ftd_pages.specs.Forms.{has_form}
 use Rattle.ftd_pages.specs.Kept.{account_shape, holiday_shape, payment_shape, run_shape}
 use Rattle.ftd_pages.specs.Kept.{total_shape, year_shape}
 use Rattle.ftd_pages.specs.Rows.{Shape}
@@ -77,19 +70,3 @@ obligation_told x = refl
 pub schedule_told : (x : DaySchedule)
     → told_by schedule_shape.fields x ≡ status_fields x.day x.kind x.reason
 schedule_told x = refl
-
--- ---- no verb that has a form is without its words
-
-abbrev pub is_empty : List ℕ → Bool
-is_empty text = length text == 0
-
-abbrev pub is_wordless_field : Field → Bool
-is_wordless_field field = is_empty (label_of field) || is_empty (help_of field)
-
-abbrev pub is_wordless : Verb → Bool
-is_wordless verb =
-    is_empty (title_of verb) || is_empty (sentence_of verb)
-    || nat_lt 0 (length (filter is_wordless_field (row_of verb).fields))
-
-pub form_words : filter (λ verb. has_form verb && is_wordless verb) all_verbs ≡ []
-form_words = refl

@@ -30,4 +30,5 @@ abbrev pub days_at : Place → LiabilityByDay → List ℕ
 days_at place x =
     let title = days_title x.account x.quarter in
     let foot = foot_of (day_sum (sum_by cents_of x.sums)) in
-    list_at place (day_shape x.account) title (codes "The quarter has no liability.") foot x.sums
+    list_at place x.account (day_shape x.account) title (codes "The quarter has no liability.") foot
+    x.sums

@@ -65,7 +65,7 @@ agenda_title from to as_of =
 -- the rows, with the sum of what is left of them
 abbrev pub agenda_list : Place → List ℕ → List ℕ → List AgendaRow → List ℕ
 agenda_list place title sentence rows =
-    list_at place agenda_shape title sentence (foot_of (left_sum (sum_by left_cents rows))) rows
+    list_at place [] agenda_shape title sentence (foot_of (left_sum (sum_by left_cents rows))) rows
 
 -- what is due until a day and not paid, as of a day
 abbrev pub owed_at : Place → OwedList → List ℕ
@@ -112,4 +112,5 @@ abbrev pub due_at : Place → DueList → List ℕ
 due_at place x =
     let title = due_title x.account x.quarter x.as_of in
     let foot = foot_of (due_sums (sum_by amount_of x.rows) (sum_by left_of x.rows)) in
-    list_at place (due_shape x.account) title (codes "The quarter has no deposits.") foot x.rows
+    list_at place x.account (due_shape x.account) title (codes "The quarter has no deposits.") foot
+    x.rows

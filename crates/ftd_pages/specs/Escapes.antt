@@ -1,6 +1,8 @@
 -- Texts inside a page.
 use Rattle.std.specs.Prelude.{ℕ, List, [], ◌∷◌, ◌++◌, ◌≡◌, ◌≢◌, ◌⊎◌, codes, ◌==◌, if◌then◌else◌}
 use Rattle.std.specs.List.{flat_map}
+use Rattle.ftd_answers.specs.Fields.{shown_as}
+use Rattle.ftd_answers.specs.declared.fields.Value.{Value}
 
 -- a byte of a text: the five that could end its place stand as a reference
 abbrev pub escaped_byte : ℕ → List ℕ
@@ -12,6 +14,10 @@ escaped_byte b =
 -- a text as it stands in a page, also between quotes
 unfoldable pub escaped : List ℕ → List ℕ
 escaped text = flat_map escaped_byte text
+
+-- a value as it stands in a page
+abbrev pub shown : Value → List ℕ
+shown value = escaped (shown_as value).plain
 
 -- ---- the law: nothing of a text ends its place
 

@@ -113,7 +113,7 @@ explanation_title account day =
 abbrev pub explanation_page : Frame → ExplainedDay → List ℕ
 explanation_page frame x =
     let title = explanation_title x.account x.day in
-    page_of frame title (explained_part x.account title x.found)
+    page_of frame x.account title (explained_part x.account title x.found)
 
 -- as a section
 unfoldable pub found_section : List ℕ → List ℕ → Explanation → List ℕ

@@ -92,32 +92,32 @@ payment_shape account = record {
 unfoldable pub accounts_at : Place → List KeptAccount → List ℕ
 accounts_at place listed =
     let title = titled (codes "Accounts" ∷ []) in
-    list_at place account_shape title (codes "No account is enrolled.") [] listed
+    list_at place [] account_shape title (codes "No account is enrolled.") [] listed
 
 unfoldable pub years_at : Place → List ℕ → List KeptYear → List ℕ
 years_at place account listed =
     let title = titled (codes "Open years of " ∷ account ∷ []) in
-    list_at place (year_shape account) title (codes "No year is open.") [] listed
+    list_at place account (year_shape account) title (codes "No year is open.") [] listed
 
 unfoldable pub reported_at : Place → List ℕ → List KeptTotal → List ℕ
 reported_at place account listed =
     let title = titled (codes "Reported totals of " ∷ account ∷ []) in
-    list_at place (total_shape account) title (codes "No total was reported.") [] listed
+    list_at place account (total_shape account) title (codes "No total was reported.") [] listed
 
 unfoldable pub holidays_at : Place → ℕ → List KeptHoliday → List ℕ
 holidays_at place year listed =
     let title = titled (codes "Holidays of " ∷ decimal year ∷ []) in
-    list_at place holiday_shape title (codes "No holiday was given.") [] listed
+    list_at place [] holiday_shape title (codes "No holiday was given.") [] listed
 
 unfoldable pub runs_at : Place → List ℕ → ℕ → List KeptRun → List ℕ
 runs_at place account quarter listed =
     let title = titled (codes "Pay runs of " ∷ account ∷ codes ", " ∷ quarter_text quarter ∷ []) in
-    list_at place (run_shape account) title (codes "The quarter has no pay runs.") [] listed
+    list_at place account (run_shape account) title (codes "The quarter has no pay runs.") [] listed
 
 unfoldable pub payments_at : Place → List ℕ → ℕ → List KeptPayment → List ℕ
 payments_at place account quarter listed =
     let title = titled (codes "Payments of " ∷ account ∷ codes ", " ∷ quarter_text quarter ∷ []) in
-    list_at place (payment_shape account) title (codes "The quarter has no payments.") [] listed
+    list_at place account (payment_shape account) title (codes "The quarter has no payments.") [] listed
 
 abbrev pub kept_at : Place → KeptRows → List ℕ
 kept_at place (rows.Accounts listed) = accounts_at place listed

@@ -10,12 +10,6 @@ pub mod Statements
 pub mod Sections
 pub mod Schedules
 pub mod Explanations
-pub mod Accounts
 pub mod Facts
 pub mod Formats
-pub mod FormWords
-pub mod Controls
-pub mod Forms
-pub mod FormLists
-pub mod SentForms
 pub mod Private

@@ -1,12 +1,14 @@
 -- The links in the cells of a page.
 use Rattle.std.specs.Prelude.{ℕ, ◌==◌, List, [], ◌∷◌, ◌++◌, codes, Option, None, Some}
-use Rattle.std.specs.Prelude.{if◌then◌else◌}
+use Rattle.std.specs.Prelude.{length, if◌then◌else◌}
 use Rattle.std.specs.List.{flat_map}
 use Rattle.std.specs.Str.{bytes_eq}
 use Rattle.ftd_days.specs.Text.{cents_text, day_text}
 use Rattle.ftd_pages.specs.Escapes.{escaped}
 use Rattle.ftd_pages.specs.declared.frames.Ways.{Ways}
-use Rattle.ftd_pages.specs.declared.frames.Ways.TheVariants.{Nowhere, From}
+use Rattle.ftd_pages.specs.declared.frames.Ways.TheVariants as ways
+use Rattle.ftd_pages.specs.declared.links.Way.{Way}
+use Rattle.ftd_pages.specs.declared.links.Way.TheVariants as way
 
 -- an address as it stands in a page: its parts one after the other, escaped
 abbrev pub address_in_page : List (List ℕ) → List ℕ
@@ -33,6 +35,13 @@ abbrev pub pay_if : List ℕ → ℕ → ℕ → Option (List ℕ)
 pay_if account first left =
     if left == 0 then None else Some (pay_address account first left)
 
+-- where a way leads
+abbrev pub address_of : Way → Option (List ℕ)
+address_of way.Nowhere = None
+address_of (way.Account account) = Some (account_address account.now)
+address_of (way.Obligation account first) = Some (reason_address account.now first)
+address_of (way.Payment account first left) = Some (pay_address account.now first left.0)
+
 -- where a field of this name leads in a row whose account alone leads to its page
 abbrev pub to_account : List ℕ → List ℕ → Option (List ℕ)
 to_account account name =
@@ -51,5 +60,12 @@ linked (Some address) text = link address text
 -- where a cell leads on a page: on a page without ways, nowhere
 abbrev pub led_by : Option (List ℕ) → Ways → Option (List ℕ)
 led_by None ways = None
-led_by (Some address) Nowhere = None
-led_by (Some address) (From today until) = Some address
+led_by (Some address) ways.Nowhere = None
+led_by (Some address) (ways.From today until) = Some address
+
+-- from a page that is of an account: the way to the page of the account, behind a blank
+unfoldable pub account_way : List ℕ → List ℕ
+account_way account = codes " " ++ link (account_address account) account
+
+abbrev pub account_way_if : List ℕ → List ℕ
+account_way_if account = if length account == 0 then [] else account_way account

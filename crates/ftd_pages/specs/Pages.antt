@@ -3,6 +3,7 @@ use Rattle.std.specs.Prelude.{ℕ, List, [], ◌∷◌, ◌++◌, codes, None}
 use Rattle.std.specs.List.{concat, flat_map}
 use Rattle.ftd_days.specs.Text.{cents_text, day_text}
 use Rattle.ftd_pages.specs.Escapes.{escaped}
+use Rattle.ftd_pages.specs.Links.{account_way_if}
 use Rattle.ftd_pages.specs.Rows.{Shape, body_for, cell, header_for}
 use Rattle.ftd_pages.specs.declared.feet.Foot.{Foot}
 use Rattle.ftd_pages.specs.declared.feet.Foot.TheVariants as foot
@@ -28,35 +29,40 @@ style_text style.Within = sheet_within STYLE.now
 style_text style.Linked = codes "<link rel=\"stylesheet\" href=\"/style.css\">\n"
 
 -- the ways to what is owed as of today until a day, to what is due from today to that day, to the
--- accounts, and to the forms; or none
-unfoldable pub ways_from : ℕ → ℕ → List ℕ
-ways_from today until =
+-- accounts, and to the forms
+unfoldable pub ways_start : ℕ → ℕ → List ℕ
+ways_start today until =
     concat (codes "<nav aria-label=\"Pages\"><a href=\"/owed/" ∷ day_text today ∷ codes "/"
     ∷ day_text until ∷ codes "/html\">Owed</a> <a href=\"/agenda/" ∷ day_text today ∷ codes "/"
     ∷ day_text until ∷ codes "/" ∷ day_text today
     ∷ (codes "/html\">Due</a> <a href=\"/lists/accounts/html\">Accounts</a> "
-    ++ codes "<a href=\"/forms\">Enter</a></nav>\n") ∷ [])
+    ++ codes "<a href=\"/forms\">Enter</a>") ∷ [])
 
-abbrev pub ways_text : Ways → List ℕ
-ways_text ways.Nowhere = []
-ways_text (ways.From today until) = ways_from today until
+-- these, and from a page that is of an account the way to the account's page; or none
+unfoldable pub ways_from : ℕ → ℕ → List ℕ → List ℕ
+ways_from today until account =
+    ways_start today until ++ (account_way_if account ++ codes "</nav>\n")
 
--- a page up to its list, and from it on
+abbrev pub ways_text : Ways → List ℕ → List ℕ
+ways_text ways.Nowhere account = []
+ways_text (ways.From today until) account = ways_from today until account
+
+-- a page up to its list, and from it on; it is of an account, or of none, which is the empty text
 abbrev pub page_head : List ℕ
 page_head =
     codes "<!DOCTYPE html>\n<html lang=\"en\">\n<head>\n<meta charset=\"utf-8\">\n"
     ++ codes "<meta name=\"viewport\" content=\"width=device-width, initial-scale=1\">\n<title>"
 
-unfoldable pub page_start : Frame → List ℕ → List ℕ
-page_start frame title =
+unfoldable pub page_start : Frame → List ℕ → List ℕ → List ℕ
+page_start frame account title =
     page_head ++ (title ++ (codes "</title>\n" ++ (style_text frame.style
-    ++ (codes "</head>\n<body>\n" ++ (ways_text frame.ways ++ codes "<main>\n")))))
+    ++ (codes "</head>\n<body>\n" ++ (ways_text frame.ways account ++ codes "<main>\n")))))
 
 abbrev pub page_end : List ℕ
 page_end = codes "</main>\n</body>\n</html>\n"
 
-unfoldable pub page_of : Frame → List ℕ → List ℕ → List ℕ
-page_of frame title part = page_start frame title ++ (part ++ page_end)
+unfoldable pub page_of : Frame → List ℕ → List ℕ → List ℕ → List ℕ
+page_of frame account title part = page_start frame account title ++ (part ++ page_end)
 
 -- ---- a list
 

@@ -36,7 +36,7 @@ schedule_title day = titled (codes "Deposit schedule on " ∷ day_text day ∷ [
 
 abbrev pub schedule_page : Frame → DaySchedule → List ℕ
 schedule_page frame x =
-    let title = schedule_title x.day in page_of frame title (schedule_part title x)
+    let title = schedule_title x.day in page_of frame [] title (schedule_part title x)
 
 -- at its place
 abbrev pub schedule_at : Place → DaySchedule → List ℕ

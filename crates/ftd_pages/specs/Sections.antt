@@ -28,11 +28,13 @@ section_of ways shape title sentence foot [] = none_in_section title sentence
 section_of ways shape title sentence foot (x ∷ rows) =
     table_of title (header_for shape x) (flat_map (body_for ways shape) (x ∷ rows)) foot
 
--- a list at its place: on a page of its own, or in a section
-abbrev pub list_at : {T : Type 0} → Place → Shape T → List ℕ → List ℕ → List ℕ → List T → List ℕ
-list_at (Alone frame) shape title sentence foot rows =
-    page_of frame title (list_of frame.ways shape title sentence foot rows)
-list_at (Section ways) shape title sentence foot rows =
+-- a list of an account at its place: on a page of its own, or in a section; for one of all accounts
+-- the account is the empty text
+abbrev pub list_at : {T : Type 0} → Place → List ℕ → Shape T → List ℕ → List ℕ → List ℕ → List T
+    → List ℕ
+list_at (Alone frame) account shape title sentence foot rows =
+    page_of frame account title (list_of frame.ways shape title sentence foot rows)
+list_at (Section ways) account shape title sentence foot rows =
     section_of ways shape title sentence foot rows
 
 -- a row alone, as a section; its cells lead nowhere

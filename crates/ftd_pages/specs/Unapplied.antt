@@ -24,4 +24,4 @@ unapplied_shape = record {
 abbrev pub unapplied_at : Place → UnappliedList → List ℕ
 unapplied_at place x =
     let title = titled (codes "Money that counts for nothing until " ∷ day_text x.until ∷ []) in
-    list_at place unapplied_shape title (codes "All money counts for a deposit.") [] x.rows
+    list_at place [] unapplied_shape title (codes "All money counts for a deposit.") [] x.rows

@@ -8,7 +8,7 @@ ghost use Rattle.ftd_pages.specs.Explanations.{explanation_parts, found_part, fo
 ghost use Rattle.ftd_pages.specs.Explanations.{obligation_part, obligation_shape, payday_shape};
 ghost use Rattle.ftd_pages.specs.Explanations.{paydays_part, payments_part, return_part};
 ghost use Rattle.ftd_pages.specs.Pages.{page_of};
-ghost use Rattle.ftd_pages.specs.Private.Cells.{shown};
+ghost use Rattle.ftd_pages.specs.Escapes.{shown};
 
 use crate::columns::{
     AMOUNT, DAY, DUE, FIRST, KIND_OF_DAY, LAST, LIABILITY, OF_PAYDAY, RULE, TOTAL,
@@ -224,11 +224,11 @@ fn write_explanation_page<W: Target>(
     target: &mut W,
 ) -> Result<(), WriteFault>
     ensures { Writes result (W.taken target.old) (W.taken target.new) (W.failed target.new)
-        (page_of frame.now (flat_map shown title.now)
+        (page_of frame.now explained.now.account (flat_map shown title.now)
         (explained_part explained.now.account (flat_map shown title.now) explained.now.found)) }
 {
     let account = explained.account.as_str();
-    write_start(frame, title, target)?;
+    write_start(frame, account, title, target)?;
     write_explained(account, title, &explained.found, target)?;
     write_end(target)
 }

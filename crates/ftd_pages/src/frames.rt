@@ -1,8 +1,10 @@
 //! What stands around the list of a page.
 
 ghost use Rattle.ftd_ports.specs.Writing.{Writes};
-ghost use Rattle.ftd_pages.specs.Pages.{sheet_within, style_text, ways_from, ways_text};
+ghost use Rattle.ftd_pages.specs.Pages.{sheet_within, style_text, ways_from, ways_start};
+ghost use Rattle.ftd_pages.specs.Pages.{ways_text};
 
+use crate::links::write_account_way_if;
 use crate::style::STYLE;
 use ftd_answers::day_bytes;
 use ftd_days::Day;
@@ -32,7 +34,7 @@ pub enum Ways {
     /// There are none.
     Nowhere,
     /// To what is owed as of today until a day, to what is due from today to that day, to the
-    /// accounts, and to the forms.
+    /// accounts, and to the forms; from the page that is of an account also to the account's.
     From {
         /// The day as of which the pages tell.
         today: Day,
@@ -69,10 +71,10 @@ pub fn write_style<W: Target>(style: Style, target: &mut W) -> Result<(), WriteF
     }
 }
 
-/// Writes the ways from a page to others.
-fn write_ways_from<W: Target>(today: Day, until: Day, target: &mut W) -> Result<(), WriteFault>
+/// Writes the start of the ways from a page to others: those that each page has.
+fn write_ways_start<W: Target>(today: Day, until: Day, target: &mut W) -> Result<(), WriteFault>
     ensures { Writes result (W.taken target.old) (W.taken target.new)
-        (W.failed target.new) (ways_from today until) }
+        (W.failed target.new) (ways_start today until) }
 {
     let (now, last) = (day_bytes(today), day_bytes(until));
     let pieces: [&[u8]; 11] = [
@@ -87,18 +89,36 @@ fn write_ways_from<W: Target>(today: Day, until: Day, target: &mut W) -> Result<
         b"/",
         &now,
         b"/html\">Due</a> <a href=\"/lists/accounts/html\">Accounts</a> \
-          <a href=\"/forms\">Enter</a></nav>\n",
+          <a href=\"/forms\">Enter</a>",
     ];
     write_pieces(target, &pieces)
 }
 
-/// Writes the ways from a page to others, if it has any.
-pub fn write_ways<W: Target>(ways: Ways, target: &mut W) -> Result<(), WriteFault>
+/// Writes the ways from a page to others: those that each page has, and from the page that is of an
+/// account the way to the account's.
+#[tactic(auto, using(ftd_ports::proofs::WritingFacts::written_in_parts), unfolding(crate::specs::Pages::ways_from))]
+fn write_ways_from<W: Target>(
+    today: Day,
+    until: Day,
+    account: &str,
+    target: &mut W,
+) -> Result<(), WriteFault>
     ensures { Writes result (W.taken target.old) (W.taken target.new)
-        (W.failed target.new) (ways_text ways) }
+        (W.failed target.new) (ways_from today until account.now) }
+{
+    write_ways_start(today, until, target)?;
+    write_account_way_if(account, target)?;
+    write_all(target, b"</nav>\n")
+}
+
+/// Writes the ways from a page to others, if it has any: also to the page of the account that it is
+/// of, if it is of one.
+pub fn write_ways<W: Target>(ways: Ways, account: &str, target: &mut W) -> Result<(), WriteFault>
+    ensures { Writes result (W.taken target.old) (W.taken target.new)
+        (W.failed target.new) (ways_text ways account.now) }
 {
     match ways {
         Ways::Nowhere => Ok(()),
-        Ways::From { today, until } => write_ways_from(today, until, target),
+        Ways::From { today, until } => write_ways_from(today, until, account, target),
     }
 }

@@ -5,7 +5,7 @@ ghost use Rattle.ftd_ports.specs.Writing.{Writes};
 ghost use Rattle.ftd_pages.specs.Kept.{account_shape, class_if, holiday_shape, payment_shape};
 ghost use Rattle.ftd_pages.specs.Kept.{run_shape, total_shape, year_shape};
 ghost use Rattle.ftd_pages.specs.Links.{reason_address};
-ghost use Rattle.ftd_pages.specs.Private.Cells.{address_of};
+ghost use Rattle.ftd_pages.specs.Links.{address_of};
 
 use crate::columns::{
     ACCOUNT, ADDED, AMOUNT, CARRIED, DAY, FIRST_LOOKBACK, FIRST_REPORTED, FIT, FOR_DAY, FORM,

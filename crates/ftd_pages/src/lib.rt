@@ -2,19 +2,14 @@
 //! have, and a rule in words where it explains.
 #![tactic(auto)]
 
-mod accounts;
-mod columns;
-mod controls;
+pub mod columns;
 mod days;
 mod dues;
 mod escapes;
 mod explanations;
 mod facts;
 mod feet;
-mod form_lists;
-mod form_words;
 mod formats;
-mod forms;
 mod frames;
 mod kept;
 mod kept_rows;
@@ -23,17 +18,15 @@ mod pages;
 mod rows;
 mod schedules;
 mod sections;
-mod sent_forms;
 mod statements;
 mod style;
 mod unapplied;
 
-pub use crate::controls::Filled;
-pub use crate::escapes::write_escaped;
-pub use crate::facts::{write_account_page, write_facts_page};
-pub use crate::form_lists::write_form_list;
+pub use crate::escapes::{write_escaped, write_escaped_bytes};
+pub use crate::facts::{write_facts_at, write_facts_page};
 pub use crate::formats::write_facts_as;
-pub use crate::forms::{has_form, write_form};
 pub use crate::frames::{Frame, Place, Style, Ways};
-pub use crate::sent_forms::{Outcome, write_sent_form};
+pub use crate::links::{Way, to_account, write_link, write_linked};
+pub use crate::pages::{write_end, write_start};
+pub use crate::sections::write_page_heading;
 pub use crate::style::STYLE;

@@ -4,8 +4,9 @@ ghost use Rattle.std.specs.Prelude.{◌≡◌, Some};
 ghost use Rattle.std.specs.List.{flat_map};
 ghost use Rattle.ftd_ports.specs.Writing.{Writes};
 ghost use Rattle.ftd_answers.specs.Fields.{shown_as};
-ghost use Rattle.ftd_pages.specs.Links.{account_address, link, linked, pay_if, reason_address};
-ghost use Rattle.ftd_pages.specs.Private.Cells.{address_of, shown};
+ghost use Rattle.ftd_pages.specs.Escapes.{shown};
+ghost use Rattle.ftd_pages.specs.Links.{account_address, account_way, account_way_if, address_of};
+ghost use Rattle.ftd_pages.specs.Links.{link, linked, pay_if, reason_address};
 
 use crate::escapes::{Values, write_shown};
 use ftd_answers::{Value, write_rows};
@@ -107,5 +108,30 @@ pub fn write_linked<W: Target>(
             ];
             write_link(&address, value, target)
         }
+    }
+}
+
+/// Writes the way to the page of an account, behind a blank.
+#[tactic(auto, using(ftd_ports::proofs::WritingFacts::written_in_parts), unfolding(crate::specs::Links::account_way))]
+fn write_account_way<W: Target>(account: &str, target: &mut W) -> Result<(), WriteFault>
+    ensures { Writes result (W.taken target.old) (W.taken target.new)
+        (W.failed target.new) (account_way account.now) }
+{
+    write_all(target, b" ")?;
+    write_linked(&to_account(account), &Value::Text(account), target)
+}
+
+/// Writes the way to the page of an account, if one is named.
+pub(crate) fn write_account_way_if<W: Target>(
+    account: &str,
+    target: &mut W,
+) -> Result<(), WriteFault>
+    ensures { Writes result (W.taken target.old) (W.taken target.new)
+        (W.failed target.new) (account_way_if account.now) }
+{
+    if account.is_empty() {
+        Ok(())
+    } else {
+        write_account_way(account, target)
     }
 }

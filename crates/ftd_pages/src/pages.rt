@@ -4,7 +4,7 @@ ghost use Rattle.std.specs.List.{flat_map};
 ghost use Rattle.ftd_ports.specs.Writing.{Writes};
 ghost use Rattle.ftd_pages.specs.Pages.{foot_text, list_of, none_of, page_end, page_of};
 ghost use Rattle.ftd_pages.specs.Pages.{page_start, table_of};
-ghost use Rattle.ftd_pages.specs.Private.Cells.{shown};
+ghost use Rattle.ftd_pages.specs.Escapes.{shown};
 ghost use Rattle.ftd_pages.specs.Rows.{body_for, header_for};
 
 use crate::escapes::{Values, write_escaped};
@@ -35,14 +35,16 @@ pub fn write_title<W: Target>(title: &[Value<'_>], target: &mut W) -> Result<(),
     write_rows(&Values, title, target)
 }
 
-/// Writes a page up to what it tells.
+/// Writes a page up to what it tells. It is of an account, or of none, which is the empty text.
+/// Where the target fails, a prefix of that was written, and it fails nowhere else.
 pub fn write_start<W: Target>(
     frame: &Frame,
+    account: &str,
     title: &[Value<'_>],
     target: &mut W,
 ) -> Result<(), WriteFault>
-    ensures { Writes result (W.taken target.old) (W.taken target.new)
-        (W.failed target.new) (page_start frame.now (flat_map shown title.now)) }
+    ensures { Writes result (W.taken target.old) (W.taken target.new) (W.failed target.new)
+        (page_start frame.now account.now (flat_map shown title.now)) }
 {
     write_all(
         target,
@@ -53,7 +55,7 @@ pub fn write_start<W: Target>(
     write_all(target, b"</title>\n")?;
     write_style(frame.style, target)?;
     write_all(target, b"</head>\n<body>\n")?;
-    write_ways(frame.ways, target)?;
+    write_ways(frame.ways, account, target)?;
     write_all(target, b"<main>\n")
 }
 
@@ -121,7 +123,8 @@ fn write_list<T: PageRow, W: Target>(
     }
 }
 
-/// Writes a page from behind what it tells.
+/// Writes a page from behind what it tells. Where the target fails, a prefix of that was written,
+/// and it fails nowhere else.
 pub fn write_end<W: Target>(target: &mut W) -> Result<(), WriteFault>
     ensures { Writes result (W.taken target.old) (W.taken target.new)
         (W.failed target.new) page_end }
@@ -138,11 +141,11 @@ pub fn write_page<T: PageRow, W: Target>(
     target: &mut W,
 ) -> Result<(), WriteFault>
     ensures { Writes result (W.taken target.old) (W.taken target.new) (W.failed target.new)
-        (page_of frame.now (flat_map shown page.now.title.now)
+        (page_of frame.now page.now.account.now (flat_map shown page.now.title.now)
         (list_of frame.now.ways (T.shape page.now.account.now) (flat_map shown page.now.title.now)
         page.now.sentence.now (foot_text page.now.foot) rows.now)) }
 {
-    write_start(frame, page.title, target)?;
+    write_start(frame, page.account, page.title, target)?;
     write_list(frame.ways, page, rows, target)?;
     write_end(target)
 }

@@ -1,9 +1,10 @@
 //! The deposit schedule of a day.
 
+ghost use Rattle.std.specs.Prelude.{[]};
 ghost use Rattle.std.specs.List.{flat_map};
 ghost use Rattle.ftd_ports.specs.Writing.{Writes};
 ghost use Rattle.ftd_pages.specs.Pages.{page_of};
-ghost use Rattle.ftd_pages.specs.Private.Cells.{shown};
+ghost use Rattle.ftd_pages.specs.Escapes.{shown};
 ghost use Rattle.ftd_pages.specs.Schedules.{schedule_at, schedule_part, schedule_shape};
 
 use crate::columns::{DAY, KIND, REASON, TURN};
@@ -65,10 +66,10 @@ fn write_schedule_page<W: Target>(
     target: &mut W,
 ) -> Result<(), WriteFault>
     ensures { Writes result (W.taken target.old) (W.taken target.new) (W.failed target.new)
-        (page_of frame.now (flat_map shown title.now)
+        (page_of frame.now [] (flat_map shown title.now)
         (schedule_part (flat_map shown title.now) schedule.now)) }
 {
-    write_start(frame, title, target)?;
+    write_start(frame, "", title, target)?;
     write_schedule_part(title, schedule, target)?;
     write_end(target)
 }

@@ -4,7 +4,7 @@
 ghost use Rattle.std.specs.List.{flat_map};
 ghost use Rattle.ftd_ports.specs.Writing.{Writes};
 ghost use Rattle.ftd_pages.specs.Pages.{foot_text};
-ghost use Rattle.ftd_pages.specs.Private.Cells.{shown};
+ghost use Rattle.ftd_pages.specs.Escapes.{shown};
 ghost use Rattle.ftd_pages.specs.Sections.{list_at, none_in_section, page_heading};
 ghost use Rattle.ftd_pages.specs.Sections.{section_heading, section_of};
 
@@ -85,8 +85,9 @@ pub fn write_list_at<T: PageRow, W: Target>(
     target: &mut W,
 ) -> Result<(), WriteFault>
     ensures { Writes result (W.taken target.old) (W.taken target.new) (W.failed target.new)
-        (list_at place.now (T.shape list.now.account.now) (flat_map shown list.now.title.now)
-        list.now.sentence.now (foot_text list.now.foot) rows.now) }
+        (list_at place.now list.now.account.now (T.shape list.now.account.now)
+        (flat_map shown list.now.title.now) list.now.sentence.now (foot_text list.now.foot)
+        rows.now) }
 {
     match place {
         Place::Alone(frame) => write_page(frame, list, rows, target),

@@ -75,14 +75,13 @@ tbody td{padding:.12rem 0}
 td.account,td.amount,td.paid,td.left,td.over,td.lookback,td.first_lookback{
 white-space:normal;overflow-wrap:anywhere}
 td[class]{grid-column:1;text-align:left}
-td.left,td.over,td.pay_by,td.makeup,td.form,td.last,td.paid,td.payment,td.for,td.obligation,
+td.over,td.pay_by,td.makeup,td.form,td.last,td.paid,td.payment,td.for,td.obligation,
 td.run,td.year,td.quarter,td.opening,td.turned,td.start,td.added,td.is,
 td.kind,td.turn,td.total,td.day+.amount,td.amount+.first{grid-column:2;text-align:right}
 td.payment+.paid{grid-column:1;text-align:left}
-td.account{order:-4;font-size:1.05rem}
-tbody .left,tbody .over{order:-3;font-size:1.05rem}
-td.verdict{order:-2}
-td.pay_by,td.makeup{order:-1}
+td.account{order:-2;font-size:1.05rem}
+tbody .left,tbody .over{font-size:1.05rem}
+td.verdict{order:-1;grid-column:2;text-align:right}
 td.rule{order:1}
 td.due::before{content:'Due '}
 td.form::before{content:'Form '}
@@ -133,8 +132,8 @@ tfoot td:empty{display:none}
 @media print{
 @page{size:landscape;margin:12mm}
 :root{--ink:#000;--soft:#222;--line:#999;--paper:#fff;--wash:#fff;--late:#000;
---late-wash:#fff;--short:#000;--short-wash:#fff;--met:#000}
-body{font-size:8.5pt}
+--late-wash:#fff;--short:#000;--short-wash:#fff;--met:#000;font-size:8.5pt}
+body{font-size:1rem}
 nav{display:none}
 main{max-width:none;padding:0;overflow:visible}
 a{color:inherit;text-decoration:none}

@@ -14,10 +14,9 @@ use Rattle.ftd_desk.specs.Desks.{IsStopped, held}
 use Rattle.ftd_desk.specs.Words.{HandlesAll}
 use Rattle.ftd_desk.specs.declared.desk.Desk.{Desk}
 use Rattle.ftd_http.specs.declared.status.Status.TheVariants as status
-use Rattle.ftd_pages.specs.Facts.{account_page}
+use Rattle.ftd_site.specs.AccountPages.{account_page}
 use Rattle.ftd_verbs.specs.declared.formats.AnswerFormat.TheVariants.{Page}
-use Rattle.ftd_server.specs.Refusals.{refused}
-use Rattle.ftd_server.specs.Replying.{server_frame}
+use Rattle.ftd_server.specs.Replying.{refused_as, server_frame}
 use Rattle.ftd_server.specs.Responses.{Said, bare, formatted}
 
 -- ---- what the page asks of the desk
@@ -54,15 +53,15 @@ abbrev pub page_of_account : Option ℕ → List ℕ → List Answer → Said
 page_of_account today account answers =
     formatted Page (account_page (server_frame today) account answers)
 
--- where none does, the response is to the first refusal
-abbrev pub nothing_told : List Answer → Said
-nothing_told (Err refusal ∷ answers) = refused refusal
-nothing_told other = bare status.InternalServerError
+-- where none does, the response is a page that tells the first refusal
+abbrev pub nothing_told : Option ℕ → List ℕ → List Answer → Said
+nothing_told today account (Err refusal ∷ answers) = refused_as today Page account refusal
+nothing_told today account other = bare status.InternalServerError
 
 abbrev pub account_said : Option ℕ → List ℕ → List Answer → Said
 account_said today account answers =
     if list_any is_told answers then page_of_account today account answers
-    else nothing_told answers
+    else nothing_told today account answers
 
 -- the response to what was answered, where there was memory to ask
 abbrev pub said_to : {A E : Type 0} → Option ℕ → List ℕ → Result (Vec Answer A) E → Said

@@ -1,9 +1,12 @@
 -- The response to what is asked.
 use Rattle.std.specs.Prelude.{◌≡◌, ℕ, ◌∷◌, [], List, codes, length, Ok, Err, Option, Some}
-use Rattle.std.specs.Prelude.{None}
+use Rattle.std.specs.Prelude.{None, unwrap_or}
 use Rattle.ftd_days.specs.Text.{day_text}
 use Rattle.ftd_http.specs.declared.status.Status.TheVariants as status
+use Rattle.ftd_machine.specs.Questions.{account_asked}
 use Rattle.ftd_machine.specs.declared.requests.Request.{Request}
+use Rattle.ftd_machine.specs.declared.requests.Request.TheVariants as request
+use Rattle.ftd_machine.specs.declared.replies.Refusal.{Refusal}
 use Rattle.ftd_machine.specs.declared.replies.Difference.{Difference}
 use Rattle.ftd_machine.specs.declared.replies.Reply.{Reply}
 use Rattle.ftd_machine.specs.declared.replies.Reply.TheVariants as reply
@@ -14,12 +17,14 @@ use Rattle.ftd_pages.specs.declared.frames.Frame.{Frame}
 use Rattle.ftd_pages.specs.declared.frames.Style.TheVariants.{Linked}
 use Rattle.ftd_pages.specs.declared.frames.Ways.{Ways}
 use Rattle.ftd_pages.specs.declared.frames.Ways.TheVariants.{From, Nowhere}
+use Rattle.ftd_site.specs.Refusals.{refused_page}
 use Rattle.ftd_verbs.specs.declared.formats.AnswerFormat.{AnswerFormat}
+use Rattle.ftd_verbs.specs.declared.formats.AnswerFormat.TheVariants.{Plain, Page}
 use Rattle.ftd_server.specs.Ahead.{shown_until}
 use Rattle.ftd_server.specs.declared.home.TheConstants.{NO_CLOCK}
 use Rattle.ftd_server.specs.Responses.{Said, bare, formatted, json}
-use Rattle.ftd_server.specs.Responses.{other_method, see_owed, style_sheet, text}
-use Rattle.ftd_server.specs.Refusals.{refused}
+use Rattle.ftd_server.specs.Responses.{other_method, page, see_owed, style_sheet, text}
+use Rattle.ftd_server.specs.Refusals.{refusal_status, refused}
 use Rattle.ftd_http.specs.declared.ask.Inquiry.{Inquiry}
 use Rattle.ftd_http.specs.declared.ask.Inquiry.TheVariants as asked
 
@@ -61,9 +66,21 @@ replied today format (reply.Posted difference) = posted difference
 replied today format (reply.Told facts) =
     formatted format (facts_as (server_frame today) format facts)
 
-abbrev pub answered : Option ℕ → AnswerFormat → Answer → Said
-answered today format (Ok reply) = replied today format reply
-answered today format (Err refusal) = refused refusal
+-- the response to the refusal of what names this account, or none: a page says in a sentence why
+-- there is no answer, and has a link to the form that helps
+abbrev pub refused_as : Option ℕ → AnswerFormat → List ℕ → Refusal → Said
+refused_as today (Plain format) account refusal = refused refusal
+refused_as today Page account refusal =
+    page (refusal_status refusal) (refused_page (server_frame today) account refusal)
+
+abbrev pub answered : Option ℕ → AnswerFormat → List ℕ → Answer → Said
+answered today format account (Ok reply) = replied today format reply
+answered today format account (Err refusal) = refused_as today format account refusal
+
+-- the account that a question names; the empty text where it names none
+abbrev pub account_in : Request → List ℕ
+account_in (request.Question question) = unwrap_or (account_asked question) []
+account_in other = []
 
 -- The response of a machine that answers requests alone to what is asked: where no request is
 -- asked of it, it stays as it is. `goes` has the machine, a request, its answer, and the machine
@@ -88,7 +105,8 @@ module _ {M : Type 0} (goes : M → Request → Answer → M → Type 0) where
       (later ≡ now) × (said ≡ bare status.NotFound)
   Responds today now asked.StyleSheet said later = (later ≡ now) × (said ≡ style_sheet)
   Responds today now (asked.Asks format request) said later =
-      (answer : Answer) × goes now request answer later × (said ≡ answered today format answer)
+      (answer : Answer) × goes now request answer later
+      × (said ≡ answered today format (account_in request) answer)
 
   -- the same of a message, whatever its body is, where no day is known
   abbrev pub ByRequests : M → Inquiry → List ℕ → Said → M → Type 0

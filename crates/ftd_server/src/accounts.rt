@@ -10,14 +10,14 @@ ghost use Rattle.ftd_server.specs.Accounts.{said_to, schedule_of, years_of};
 ghost use Rattle.ftd_server.specs.Responses.{Said, said_of};
 
 use crate::facts::server_frame;
-use crate::refusals::refusal_response;
+use crate::refused::refused_as;
 use crate::response::{Response, bare_response, report_response};
 use ftd_days::{Day, Quarter};
 use ftd_desk::Desk;
 use ftd_http::Status;
 use ftd_machine::{AccountName, Answer, KeptList, Question, Reply, Request};
-use ftd_pages::write_account_page;
 use ftd_ports::Port;
+use ftd_site::write_account_page;
 use ftd_verbs::AnswerFormat;
 use sqlite::Alter;
 use std::alloc::{AllocError, Global};
@@ -118,12 +118,18 @@ fn page_of_account(
     }
 }
 
-/// The response where no answer tells anything: to the first refusal.
-fn nothing_told(alloc: Global, answers: &[Answer]) -> Result<Response, AllocError>
-    ensures { IfOk result (λ response. said_of response ≡ nothing_told answers.now) }
+/// The response where no answer tells anything: a page that tells the first refusal.
+fn nothing_told(
+    alloc: Global,
+    today: Option<Day>,
+    account: &str,
+    answers: &[Answer],
+) -> Result<Response, AllocError>
+    ensures { IfOk result (λ response. said_of response
+        ≡ nothing_told today account.now answers.now) }
 {
     match answers.first() {
-        Some(Err(refusal)) => refusal_response(alloc, refusal),
+        Some(Err(refusal)) => refused_as(alloc, today, AnswerFormat::Page, account, refusal),
         Some(Ok(_)) | None => Ok(bare_response(alloc, Status::InternalServerError)),
     }
 }
@@ -141,7 +147,7 @@ fn account_said(
     if is_one_told(answers) {
         page_of_account(alloc, today, account, answers)
     } else {
-        nothing_told(alloc, answers)
+        nothing_told(alloc, today, account, answers)
     }
 }
 
@@ -179,9 +185,9 @@ fn response_to(
 /// The response with the page of an account on the day of today, if it is known: its deposit
 /// schedule, what is due for the quarter of the day and for the one before, and its open years, a
 /// section each. What the desk refuses has no section; where it refuses all, as of an account that
-/// it has not, the response is to the first refusal. Where there is no memory to ask, the response
-/// says so by its status, and the desk stays as it was; an error says that there was none for the
-/// response.
+/// it has not, the response is a page that tells the first refusal. Where there is no memory to
+/// ask, the response says so by its status, and the desk stays as it was; an error says that there
+/// was none for the response.
 pub fn account_response<S: Alter>(
     alloc: Global,
     desk: &mut Desk<S>,

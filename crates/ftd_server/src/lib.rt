@@ -16,6 +16,7 @@ mod machine;
 mod office;
 mod outcome;
 mod refusals;
+mod refused;
 mod respond;
 mod response;
 mod serving;

@@ -111,7 +111,7 @@ fn count_text(alloc: Global, count: u32, name: &str, number: u32) -> Result<Vec<
 }
 
 /// The status of a refusal.
-fn refusal_status(refusal: &Refusal) -> Status
+pub fn refusal_status(refusal: &Refusal) -> Status
     ensures { result ≡ refusal_status refusal.now }
 {
     if refusal.is_failure() {

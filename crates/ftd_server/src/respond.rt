@@ -1,13 +1,13 @@
 //! The response to what is asked.
 
 ghost use Rattle.std.specs.Prelude.{◌≡◌, IfOk, OnErr};
-ghost use Rattle.ftd_server.specs.Refusals.{refused};
-ghost use Rattle.ftd_server.specs.Replying.{Responds, answered, named, posted, replied};
+ghost use Rattle.ftd_server.specs.Replying.{Responds, account_in, answered, named, posted};
+ghost use Rattle.ftd_server.specs.Replying.{replied};
 ghost use Rattle.ftd_server.specs.Responses.{Said, said_of};
 ghost use Rattle.ftd_server.specs.Tables.{handles};
 
 use crate::facts::facts_said;
-use crate::refusals::refusal_response;
+use crate::refused::refused_as;
 use crate::response::{
     Response, bare_response, json_response, object_text, other_method, style_response,
 };
@@ -15,14 +15,15 @@ use ftd_answers::Value;
 use ftd_days::Day;
 use ftd_desk::Desk;
 use ftd_http::{Inquiry, Status};
-use ftd_machine::{Answer, Difference, Reply, is_bounded};
+use ftd_machine::{Answer, Difference, Reply, Request, is_bounded};
 use ftd_verbs::AnswerFormat;
 use sqlite::Alter;
 use std::alloc::{AllocError, Global};
 
 /// The response of a desk to what is asked, on the day of today, if it is known. A desk alone
 /// answers requests, and no commands; it tells no journals, and has no first page, none of an
-/// account, and no forms. Where there is no memory for the response, the desk has answered all the same.
+/// account, and no forms. Where there is no memory for the response, the desk has answered all the
+/// same.
 pub fn desk_response<S: Alter>(
     alloc: Global,
     desk: &mut Desk<S>,
@@ -48,23 +49,38 @@ pub fn desk_response<S: Alter>(
         Inquiry::StyleSheet => style_response(alloc),
         Inquiry::Asks { format, request } => {
             let answer = desk.handle(request);
-            answered(alloc, today, *format, &answer)
+            answered(alloc, today, *format, account_in(request), &answer)
         }
     }
 }
 
-/// The response to an answer.
+/// The account that a question names. Empty where it names none.
+fn account_in(request: &Request) -> &str
+    ensures { result.now ≡ account_in request.now }
+{
+    match request {
+        Request::Question(question) => match question.account() {
+            Some(account) => account.as_str(),
+            None => "",
+        },
+        _ => "",
+    }
+}
+
+/// The response to an answer to what names this account, or none.
 fn answered(
     alloc: Global,
     today: Option<Day>,
     format: AnswerFormat,
+    account: &str,
     answer: &Answer,
 ) -> Result<Response, AllocError>
-    ensures { IfOk result (λ response. said_of response ≡ answered today format answer.now) }
+    ensures { IfOk result (λ response. said_of response
+        ≡ answered today format account.now answer.now) }
 {
     match answer {
         Ok(reply) => replied(alloc, today, format, reply),
-        Err(refusal) => refusal_response(alloc, refusal),
+        Err(refusal) => refused_as(alloc, today, format, account, refusal),
     }
 }
 

@@ -1,7 +1,7 @@
 use Rattle.std.proofs.Common.{◌≡◌, map}
 use Rattle.std.specs.Prelude.{take}
 use Rattle.ftd_http.specs.Controls.{seen}
-use Rattle.ftd_pages.specs.Controls.{pair_of}
+use Rattle.ftd_site.specs.Controls.{pair_of}
 use Rattle.ftd_forms.specs.Sent.{texts_of}
 use Rattle.ftd_forms.proofs.outcomes.filled_with.Given as goal
 

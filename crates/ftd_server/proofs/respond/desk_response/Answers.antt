@@ -1,6 +1,6 @@
 use Rattle.std.proofs.Common.{refl}
 use Rattle.std.specs.Prelude.{Result, Ok, Err, IfOk, OnErr}
-use Rattle.ftd_server.specs.Replying.{answered}
+use Rattle.ftd_server.specs.Replying.{account_in, answered}
 use Rattle.ftd_server.specs.Responses.{style_sheet}
 use Rattle.ftd_server.proofs.respond.desk_response.Goals as goal
 
@@ -16,7 +16,7 @@ returns-in-StyleSheet-clause-err g c =
 pub returns-in-Asks-clause-err : goal.returns-in-Asks-clause-err
 returns-in-Asks-clause-err g c =
     on_err c.answered.result (
-      answered c.args.today c.in-Asks.format c.handle-answer.result,
+      answered c.args.today c.in-Asks.format (account_in c.in-Asks.request) c.handle-answer.result,
       rw c.in-Asks.is (c.handle-answer.result, c.handle-answer.ensures.handles, refl),
     )
 
@@ -30,4 +30,4 @@ pub returns-in-Asks-clause-ok : goal.returns-in-Asks-clause-ok
 returns-in-Asks-clause-ok g c =
     if_ok c.answered.result
     (λ response said. rw c.in-Asks.is (c.handle-answer.result, c.handle-answer.ensures.handles, said))
-    c.answered.ensures
+    (rw c.account_in.ensures at c.answered.ensures)

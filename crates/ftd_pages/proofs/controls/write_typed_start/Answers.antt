@@ -1,6 +1,0 @@
-use Rattle.ftd_pages.specs.Controls.{typed_start}
-use Rattle.ftd_pages.proofs.controls.write_typed_start.Goals as goal
-
-pub returns : goal.returns
-unfolding typed_start
-returns g c = rw c.as_bytes.ensures.value at c.write_pieces.ensures

@@ -1,0 +1,22 @@
+use Rattle.ftd_ports.proofs.WritingFacts.{then_writes, stops_in}
+use Rattle.ftd_pages.specs.Pages.{page_of}
+use Rattle.ftd_site.proofs.forms.write_form.Goals as goal
+
+pub returns-in_err-write_start : goal.returns-in_err-write_start
+unfolding page_of
+returns-in_err-write_start g c =
+    stops_in _ c.from_residual.ensures.0
+    (rw (c.title.ensures, c.filled_in-account.ensures) at c.in_err-write_start.ensures)
+
+pub returns-in_err-write_form_part : goal.returns-in_err-write_form_part
+unfolding page_of
+returns-in_err-write_form_part g c =
+    then_writes (rw (c.title.ensures, c.filled_in-account.ensures) at c.in_ok-write_start.ensures)
+    (stops_in _ c.from_residual-in_err-write_form_part.ensures.0
+    c.in_err-write_form_part.ensures)
+
+pub returns : goal.returns
+unfolding page_of
+returns g c =
+    then_writes (rw (c.title.ensures, c.filled_in-account.ensures) at c.in_ok-write_start.ensures)
+    (then_writes c.in_ok-write_form_part.ensures c.write_end.ensures)

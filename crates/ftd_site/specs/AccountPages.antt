@@ -1,0 +1,28 @@
+-- The page of an account: several answers, one after the other.
+use Rattle.std.specs.Prelude.{ℕ, List, [], ◌∷◌, ◌++◌, Ok, codes}
+use Rattle.std.specs.List.{flat_map}
+use Rattle.ftd_machine.specs.Checks.{Answer}
+use Rattle.ftd_machine.specs.declared.replies.Reply.TheVariants.{Told}
+use Rattle.ftd_pages.specs.Facts.{facts_at}
+use Rattle.ftd_pages.specs.Pages.{page_of, titled}
+use Rattle.ftd_pages.specs.Sections.{page_heading}
+use Rattle.ftd_pages.specs.declared.frames.Frame.{Frame}
+use Rattle.ftd_pages.specs.declared.frames.Place.TheVariants.{Section}
+use Rattle.ftd_pages.specs.declared.frames.Ways.{Ways}
+use Rattle.ftd_site.specs.Accounts.{account_ways}
+
+-- a section for an answer that tells something, and none for any other
+abbrev pub section_of_answer : Ways → Answer → List ℕ
+section_of_answer ways (Ok (Told facts)) = facts_at (Section ways) facts
+section_of_answer ways other = []
+
+-- a heading, the links to the lists and the forms of the account, and a section for each answer
+unfoldable pub answers_of : Ways → List ℕ → List ℕ → List Answer → List ℕ
+answers_of ways account title answers =
+    page_heading title ++ (account_ways ways account ++ flat_map (section_of_answer ways) answers)
+
+-- the page of an account
+abbrev pub account_page : Frame → List ℕ → List Answer → List ℕ
+account_page frame account answers =
+    let title = titled (codes "Account " ∷ account ∷ []) in
+    page_of frame [] title (answers_of frame.ways account title answers)
