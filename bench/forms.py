@@ -4,10 +4,11 @@
     bench/forms.py [PROGRAM [DESKS [REQUESTS]]]
 
 It needs Debian's python3-html5lib. Of each of DESKS random desks (40 if none is given) REQUESTS random requests that change something (250 if none is
-given), nonsense and corrections too, are sent to a server as forms, as a browser sends them, and to another over a new file as commands. The page has to
-tell what the command prints, with the status that its exit status has, and to be read by a parser of HTML without a fault; where it was not done, its form
-has to be filled in as it was sent. The form of each account is asked for too, and has to have the next number. At the end all rows of the tables have to be
-the same. It ends with status 1 at the first difference.
+given), nonsense and corrections too, are sent to a server as forms, as a browser sends them, and to another over a new file as commands. Of one in ten a
+field gets a value that is none of its kind. The page has to tell what the command prints, with the status that its exit status has, and to be read by a
+parser of HTML without a fault; its title has to say whether it was done; where it was not done, its form has to be filled in as it was sent, and a field that
+has no value of its kind has to be named and marked, it alone. The form of each account is asked for too, and has to have the next number. At the end all
+rows of the tables have to be the same. It ends with status 1 at the first difference.
 """
 
 import http.client
@@ -76,6 +77,27 @@ def without_number(rng, words, fields):
     return words, fields
 
 
+# Texts that are no values of a field's kind, by its name.
+BAD = {
+    **dict.fromkeys(("payday", "start", "day", "paid", "for"), ("2023-02-29", "2024-1-5", "2024/01/05", "1899-12-31", "soon")),
+    **dict.fromkeys(("fit", "ss", "medicare", "amount"), ("1,000.00", "1.005", ".5", "5.", "1000000000", "five")),
+    **dict.fromkeys(("run", "payment", "number", "year"), ("1.5", "seven", "0x10", "99999999999")),
+    "quarter": ("2024Q5", "2024q1", "Q1", "24Q1"),
+    "form": ("944", "x"),
+    "holiday": ("maybe", "true"),
+}
+
+
+def with_bad_value(rng, words, fields):
+    """Now and then a field whose text is no value of its kind, as a word of the command too; its name, if there is one."""
+    names = [name for name in fields if name in BAD and words.count(fields[name]) == 1]
+    if not names or rng.random() >= 0.1:
+        return words, fields, None
+    name = rng.choice(names)
+    bad = rng.choice(BAD[name])
+    return [bad if word == fields[name] else word for word in words], fields | {name: bad}, name
+
+
 class Sender(Server):
     """A server that is sent messages with a body."""
 
@@ -105,15 +127,26 @@ def filled_in(document):
     return {name: text for name, text in given.items() if text}
 
 
-def compare(where, forms, commands, words, fields):
-    """Sends a form and its command, and compares what they tell."""
+def marked(document):
+    """The names of the controls that are marked as bad, and those to which the page leads to correct them."""
+    controls = [it.get("name") for kind in ("input", "select", "textarea") for it in document.iter(f"{XHTML}{kind}") if it.get("aria-invalid") == "true"]
+    ways = [it.get("href")[1:] for it in document.iter(f"{XHTML}a") if it.get("href").startswith("#")]
+    return controls, ways
+
+
+def compare(where, forms, commands, words, fields, bad=None):
+    """Sends a form and its command, and compares what they tell. The name is that of the field that has no value of its kind, if it is known."""
     status, page = forms.post(f"/forms/{words[0]}", urllib.parse.urlencode(fields))
     answer = json.loads(commands.post("/commands", " ".join(words) + "\n")[1])
     assert status == STATUS[answer["status"]], (where, words, status, answer)
-    document, _ = read_page(page, where)
+    document, title = read_page(page, where)
+    assert title.startswith("Done: " if status == 200 else "Not done: "), (where, title)
+    assert status == 400 or bad is None, (where, words, status)
     if status == 400:
-        assert any(it.get("class") == "bad" for it in document.iter(f"{XHTML}p")), (where, words)
+        controls, ways = marked(document)
+        assert len(controls) == 1 and controls == ways and bad in (None, controls[0]), (where, words, controls, ways, bad)
     else:
+        assert marked(document) == ([], []), (where, words)
         wanted = answer["out"] + answer["err"] if status == 200 else answer["err"]
         wanted = wanted.replace("line 1: ", "").replace(f"commands.db", "forms.db")
         assert printed(document) == wanted, f"{where}: {words}\n  the page: {printed(document)}\n  the command: {wanted}"
@@ -154,7 +187,8 @@ def compare_desk(program, folder, seed, count):
         reading.ask(line)
         if asked is None:
             continue
-        counts[compare(f"seed {seed}", forms, commands, *without_number(rng, *asked))] += 1
+        asked = without_number(rng, *asked)
+        counts[compare(f"seed {seed}", forms, commands, *with_bad_value(rng, *asked))] += 1
         sent += 1
     accounts = json.loads(forms.get("/lists/accounts/json")[2])["rows"]
     for row in rng.sample(accounts, min(2, len(accounts))):

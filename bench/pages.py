@@ -5,7 +5,8 @@
 
 It needs Debian's python3-html5lib. DESKS desks (300 if none is given) are made of REQUESTS random requests (60 if none is given), and served. Each list,
 and why each obligation is so, is asked over HTTP as a page. Each page has to be read without a fault and to have a language, a title of its own, a caption
-for each table, and a scope for each header cell; the cells have to be the values of its JSON, one by one. Each link of a page has to lead to a page.
+for each table, and a scope for each header cell; the cells have to be the values of its JSON, one by one. What is refused has to be a page too, of a sentence with what the refusal names. Each link of a page
+has to lead to a page.
 It ends with status 1 at the first difference.
 """
 
@@ -123,6 +124,17 @@ def links_of(document):
     return {it.get("href") for it in document.iter(f"{XHTML}a")}
 
 
+def read_refusal(server, path, status, said):
+    """Reads the page of what is refused: a sentence, with the same status, and what the refusal names. Gives its links."""
+    told = json.loads(said)
+    found, fields, page = server.get(f"{path}/html")
+    assert found == status and fields["Content-Type"].startswith("text/html"), (path, status, found)
+    document, title = read_page(page, path)
+    headings = [text_of(it) for it in document.iter(f"{XHTML}h1")]
+    assert headings == [title] and title.endswith(".") and str(told.get("detail", told.get("count", ""))) in title, (path, told, title)
+    return links_of(document)
+
+
 def lists_of(server, rng):
     """The paths of the lists of a desk: over all accounts, and of each account."""
     first, last = sorted(f"{rng.randint(2022, 2027)}-{rng.randint(1, 12):02}-{rng.randint(1, 28):02}" for _ in range(2))
@@ -157,8 +169,10 @@ def compare(program, folder, seed, count):
     pages = cells = 0
     links = set()
     for path in lists_of(server, rng):
-        if server.get(f"{path}/csv")[0] != 200:
-            assert server.get(f"{path}/html")[0] != 200, path
+        status, _, said = server.get(f"{path}/csv")
+        if status != 200:
+            links |= read_refusal(server, path, status, said)
+            pages += 1
             continue
         document, some = compare_list(server, path, titles)
         pages, cells, links = pages + 1, cells + some, links | links_of(document)
@@ -166,6 +180,8 @@ def compare(program, folder, seed, count):
         for path in explained(server, rng, name):
             document, some = compare_explanation(server, path)
             pages, cells, links = pages + 1, cells + some, links | links_of(document)
+    # a name that no account has
+    links |= read_refusal(server, "/lists/accounts/nobody/years", *server.get("/lists/accounts/nobody/years/csv")[::2])
     for link in sorted(links):
         status, _, page = server.get(link)
         assert status == 200, (seed, link, status)
