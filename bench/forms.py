@@ -151,7 +151,8 @@ def compare(where, forms, commands, words, fields, bad=None):
         wanted = wanted.replace("line 1: ", "").replace(f"commands.db", "forms.db")
         assert printed(document) == wanted, f"{where}: {words}\n  the page: {printed(document)}\n  the command: {wanted}"
     if status != 200:
-        typed = {name: text for name, text in fields.items() if text}
+        # a text that is none of those to choose from can't be shown as chosen
+        typed = {name: text for name, text in fields.items() if text and not (name == bad and name in ("form", "holiday"))}
         assert filled_in(document) == typed, (where, filled_in(document), typed)
     return status
 
