@@ -1,9 +1,10 @@
 -- The links in the cells of a page.
-use Rattle.std.specs.Prelude.{ℕ, ◌==◌, List, [], ◌∷◌, ◌++◌, codes, Option, None, Some}
-use Rattle.std.specs.Prelude.{length, if◌then◌else◌}
+use Rattle.std.specs.Prelude.{ℕ, ◌==◌, ◌&&◌, Bool, List, [], ◌∷◌, ◌++◌, codes, Option, None, Some}
+use Rattle.std.specs.Prelude.{length, nat_le, if◌then◌else◌}
 use Rattle.std.specs.List.{flat_map}
 use Rattle.std.specs.Str.{bytes_eq}
 use Rattle.ftd_days.specs.Text.{cents_text, day_text}
+use Rattle.ftd_rules.specs.declared.TheConstants.{MOST_CENTS}
 use Rattle.ftd_pages.specs.Escapes.{escaped}
 use Rattle.ftd_pages.specs.declared.frames.Ways.{Ways}
 use Rattle.ftd_pages.specs.declared.frames.Ways.TheVariants as ways
@@ -25,15 +26,19 @@ reason_address account first =
     address_in_page (codes "/accounts/" ∷ account ∷ codes "/explain/" ∷ day_text first
     ∷ codes "/html" ∷ [])
 
--- the form of a payment of what is left of that obligation; where nothing is left there is none
+-- the form of a payment of what is left of that obligation; where nothing is left, or more than one
+-- payment may have, there is none
 abbrev pub pay_address : List ℕ → ℕ → ℕ → List ℕ
 pay_address account first left =
     address_in_page (codes "/forms/pay/" ∷ account ∷ codes "/" ∷ day_text first ∷ codes "/"
     ∷ cents_text left ∷ [])
 
+abbrev pub is_payable : ℕ → Bool
+is_payable left = nat_le 1 left && nat_le left MOST_CENTS
+
 abbrev pub pay_if : List ℕ → ℕ → ℕ → Option (List ℕ)
 pay_if account first left =
-    if left == 0 then None else Some (pay_address account first left)
+    if is_payable left then Some (pay_address account first left) else None
 
 -- where a way leads
 abbrev pub address_of : Way → Option (List ℕ)

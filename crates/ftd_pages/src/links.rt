@@ -12,6 +12,7 @@ use crate::escapes::{Values, write_shown};
 use ftd_answers::{Value, write_rows};
 use ftd_days::{Cents, Day};
 use ftd_ports::{Target, WriteFault, write_all};
+use ftd_rules::MOST_CENTS;
 
 /// Where a cell leads.
 #[derive(Clone, Copy, Debug)]
@@ -41,14 +42,15 @@ pub fn to_reason<'a>(account: &'a str, first: Day) -> Way<'a>
 }
 
 /// The way to the form of a payment of what is left of the obligation of an account whose deposit
-/// period begins on a day. Where nothing is left it leads nowhere.
+/// period begins on a day. Where nothing is left, or more than one payment may have, it leads
+/// nowhere.
 pub fn to_payment<'a>(account: &'a str, first: Day, left: Cents) -> Way<'a>
     ensures { address_of result ≡ pay_if account.now first left.0 }
 {
-    if left.0 == 0 {
-        Way::Nowhere
-    } else {
+    if 1 <= left.0 && left.0 <= MOST_CENTS {
         Way::Payment(account, first, left)
+    } else {
+        Way::Nowhere
     }
 }
 
