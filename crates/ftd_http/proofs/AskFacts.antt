@@ -13,6 +13,7 @@ use Rattle.ftd_http.specs.Methods.{method_text}
 use Rattle.ftd_http.specs.declared.route.Route.{Route}
 use Rattle.ftd_http.specs.declared.ask.Inquiry.{Inquiry}
 use Rattle.ftd_http.specs.declared.ask.Inquiry.TheVariants as asked
+use Rattle.ftd_http.specs.declared.ask.Methods.TheVariants.{Only}
 
 -- by the test for UTF-8
 by_text : (m t b : List ℕ) (text : Bool) → is_utf8 t ≡ text → verb_asked m t b ≡ cond text
@@ -42,14 +43,14 @@ by_no_route (Err e) m t b utf8 none is = is
 by_method : (m t b : List ℕ) (route : Route) (right : Bool)
     → bytes_eq m (method_text (method_of route)) ≡ right
     → routed m t b (Some route) ≡ cond right (formed route.format (request_of route.verb t b))
-    (asked.OtherMethod (method_of route))
+    (asked.OtherMethod (Only (method_of route)))
 by_method m t b route right e =
     ap (λ z. cond z (formed route.format (request_of route.verb t b))
-    (asked.OtherMethod (method_of route))) e
+    (asked.OtherMethod (Only (method_of route)))) e
 
 pub wrong_method : (m t b : List ℕ) (route : Route) → IsUtf8 t → Some route ≡ route_of t
     → bytes_eq m (method_text (method_of route)) ≡ false
-    → asked.OtherMethod (method_of route) ≡ verb_asked m t b
+    → asked.OtherMethod (Only (method_of route)) ≡ verb_asked m t b
 wrong_method m t b route utf8 found wrong = sym (by_method m t b route false wrong)
     ∙ by_route m t b (Some route) utf8 found
 

@@ -16,6 +16,7 @@ use Rattle.ftd_http.specs.Requests.{request_of}
 use Rattle.ftd_http.specs.declared.route.Route.{Route}
 use Rattle.ftd_http.specs.declared.ask.Inquiry.{Inquiry}
 use Rattle.ftd_http.specs.declared.ask.Inquiry.TheVariants as asked
+use Rattle.ftd_http.specs.declared.ask.Methods.TheVariants.{Only}
 
 -- what a message of the right method asks
 abbrev pub formed : AnswerFormat → Option Request → Inquiry
@@ -44,7 +45,7 @@ page_name target = option_and_then page_behind (rsplit_once 47 target)
 -- what a message of this method asks of that page
 abbrev pub page_asked : List ℕ → List ℕ → Inquiry
 page_asked method account =
-    if bytes_eq method (method_text Get) then asked.Account account else asked.OtherMethod Get
+    if bytes_eq method (method_text Get) then asked.Account account else asked.OtherMethod (Only Get)
 
 -- what a message asks whose target is no verb's: the page of an account, a form, or nothing
 abbrev pub page_if : List ℕ → List ℕ → Option (List ℕ) → Inquiry
@@ -59,7 +60,7 @@ routed method target body None = unrouted method target
 routed method target body (Some route) =
     if bytes_eq method (method_text (method_of route))
     then formed route.format (request_of route.verb target body)
-    else asked.OtherMethod (method_of route)
+    else asked.OtherMethod (Only (method_of route))
 
 -- what a message asks by the route of a verb, or of the page of an account; a target that is no
 -- UTF-8 has none
@@ -73,7 +74,7 @@ commands_path = codes "/commands"
 
 abbrev pub commands_asked : List ℕ → Inquiry
 commands_asked method =
-    if bytes_eq method (method_text Post) then asked.Commands else asked.OtherMethod Post
+    if bytes_eq method (method_text Post) then asked.Commands else asked.OtherMethod (Only Post)
 
 -- the target of the desk's journal, and what a message of this method asks there, or at that of an
 -- account's
@@ -82,7 +83,7 @@ journal_path = codes "/journal"
 
 abbrev pub journal_asked : List ℕ → Option (List ℕ) → Inquiry
 journal_asked method account =
-    if bytes_eq method (method_text Get) then asked.Journal account else asked.OtherMethod Get
+    if bytes_eq method (method_text Get) then asked.Journal account else asked.OtherMethod (Only Get)
 
 -- the target of the style sheet of the pages, and what a message of this method asks there
 abbrev pub style_path : List ℕ
@@ -90,7 +91,7 @@ style_path = codes "/style.css"
 
 abbrev pub style_asked : List ℕ → Inquiry
 style_asked method =
-    if bytes_eq method (method_text Get) then asked.StyleSheet else asked.OtherMethod Get
+    if bytes_eq method (method_text Get) then asked.StyleSheet else asked.OtherMethod (Only Get)
 
 -- the target of the first page, and what a message of this method asks there
 abbrev pub home_path : List ℕ
@@ -98,7 +99,7 @@ home_path = codes "/"
 
 abbrev pub home_asked : List ℕ → Inquiry
 home_asked method =
-    if bytes_eq method (method_text Get) then asked.Home else asked.OtherMethod Get
+    if bytes_eq method (method_text Get) then asked.Home else asked.OtherMethod (Only Get)
 
 -- the name of the account whose journal a target asks for: what is behind its last slash, if that
 -- is not empty and the target of the desk's journal is before it

@@ -14,6 +14,7 @@ use Rattle.ftd_http.specs.Methods.{method_text}
 use Rattle.ftd_http.specs.Values.{amount_of}
 use Rattle.ftd_http.specs.declared.ask.Payable.{Payable}
 use Rattle.ftd_http.specs.declared.ask.Inquiry.{Inquiry}
+use Rattle.ftd_http.specs.declared.ask.Methods.TheVariants.{GetAndPost, Only}
 use Rattle.ftd_http.specs.declared.ask.Inquiry.TheVariants as asked
 
 -- the verb of a command
@@ -36,12 +37,12 @@ abbrev pub empty_form : List ℕ → Verb → Inquiry
 empty_form method verb =
     if bytes_eq method (method_text Get) then asked.Form verb None None
     else if bytes_eq method (method_text Post) then asked.Sent verb
-    else asked.OtherMethod Post
+    else asked.OtherMethod GetAndPost
 
 abbrev pub account_form : List ℕ → Verb → List ℕ → Inquiry
 account_form method verb account =
     if bytes_eq method (method_text Get) then asked.Form verb (Some account) None
-    else asked.OtherMethod Get
+    else asked.OtherMethod (Only Get)
 
 -- what of an obligation may be paid: its deposit period begins on this day, and so much is left
 abbrev pub payable : ℕ → Cents → Payable
@@ -76,7 +77,7 @@ abbrev pub pay_form : List ℕ → Option (List ℕ × Payable) → Inquiry
 pay_form method None = asked.NoRoute
 pay_form method (Some named) =
     if bytes_eq method (method_text Get) then asked.Form Pay (Some named.0) (Some named.1)
-    else asked.OtherMethod Get
+    else asked.OtherMethod (Only Get)
 
 -- what a message asks whose target is a path and an account behind it, or that of such a form
 abbrev pub filled_if : List ℕ → List ℕ → List ℕ → Option Verb → Inquiry
@@ -98,7 +99,7 @@ form_behind method target = form_if method target (form_verb target)
 -- so where it may also be that of the page that lists forms
 abbrev pub forms_asked : List ℕ → Inquiry
 forms_asked method =
-    if bytes_eq method (method_text Get) then asked.Forms else asked.OtherMethod Get
+    if bytes_eq method (method_text Get) then asked.Forms else asked.OtherMethod (Only Get)
 
 abbrev pub form_at : List ℕ → List ℕ → Inquiry
 form_at method target =

@@ -30,13 +30,22 @@ pub struct Payable {
     pub left: Cents,
 }
 
+/// The methods of a target.
+#[derive(Clone, Copy, Debug, PartialEq, Eq)]
+pub enum Methods {
+    /// This one alone.
+    Only(Method),
+    /// `GET` shows a form, and `POST` sends it.
+    GetAndPost,
+}
+
 /// What a message asks.
 #[derive(Drop)]
 pub enum Inquiry {
     /// No route matches the target.
     NoRoute,
-    /// The route has this method, and the message another.
-    OtherMethod(Method),
+    /// The target has these methods, and the message another.
+    OtherMethod(Methods),
     /// A part of the path, or the body, is not of the route's form.
     BadForm,
     /// The first page of the server is to be found.
@@ -156,7 +165,7 @@ fn commands_asked(method: &[u8]) -> Inquiry
     if is_method(method, Method::Post) {
         Inquiry::Commands
     } else {
-        Inquiry::OtherMethod(Method::Post)
+        Inquiry::OtherMethod(Methods::Only(Method::Post))
     }
 }
 
@@ -199,7 +208,7 @@ fn journal_asked(method: &[u8], account: Option<AccountName>) -> Inquiry
     if is_method(method, Method::Get) {
         Inquiry::Journal(account)
     } else {
-        Inquiry::OtherMethod(Method::Get)
+        Inquiry::OtherMethod(Methods::Only(Method::Get))
     }
 }
 
@@ -217,7 +226,7 @@ fn style_asked(method: &[u8]) -> Inquiry
     if is_method(method, Method::Get) {
         Inquiry::StyleSheet
     } else {
-        Inquiry::OtherMethod(Method::Get)
+        Inquiry::OtherMethod(Methods::Only(Method::Get))
     }
 }
 
@@ -235,7 +244,7 @@ fn home_asked(method: &[u8]) -> Inquiry
     if is_method(method, Method::Get) {
         Inquiry::Home
     } else {
-        Inquiry::OtherMethod(Method::Get)
+        Inquiry::OtherMethod(Methods::Only(Method::Get))
     }
 }
 
@@ -258,7 +267,7 @@ fn verb_asked(
     };
     let wanted = route.verb.row().method;
     if !is_method(method, wanted) {
-        return Ok(Inquiry::OtherMethod(wanted));
+        return Ok(Inquiry::OtherMethod(Methods::Only(wanted)));
     }
     let request = make_request(alloc, route.verb, target, body)?;
     Ok(formed(route.format, request))
@@ -310,7 +319,7 @@ fn page_asked(method: &[u8], account: AccountName) -> Inquiry
     if is_method(method, Method::Get) {
         Inquiry::Account(account)
     } else {
-        Inquiry::OtherMethod(Method::Get)
+        Inquiry::OtherMethod(Methods::Only(Method::Get))
     }
 }
 

@@ -7,7 +7,7 @@ ghost use Rattle.ftd_http.specs.Forms.{form_at, form_behind, form_command, form_
 ghost use Rattle.ftd_http.specs.Forms.{forms_asked, pay_form, pay_named, payable_in};
 ghost use Rattle.ftd_http.specs.Forms.{paying_account, verb_named};
 
-use crate::ask::{Inquiry, Payable, is_method};
+use crate::ask::{Inquiry, Methods, Payable, is_method};
 use crate::route::last_cut;
 use crate::values::name;
 use ftd_days::{Cents, Day};
@@ -66,7 +66,7 @@ fn empty_form(method: &[u8], verb: Verb) -> Inquiry
     } else if is_method(method, Method::Post) {
         Inquiry::Sent(verb)
     } else {
-        Inquiry::OtherMethod(Method::Post)
+        Inquiry::OtherMethod(Methods::GetAndPost)
     }
 }
 
@@ -81,7 +81,7 @@ fn account_form(method: &[u8], verb: Verb, account: AccountName) -> Inquiry
             payable: None,
         }
     } else {
-        Inquiry::OtherMethod(Method::Get)
+        Inquiry::OtherMethod(Methods::Only(Method::Get))
     }
 }
 
@@ -129,7 +129,7 @@ fn pay_form(method: &[u8], account: AccountName, payable: Payable) -> Inquiry
             payable: Some(payable),
         }
     } else {
-        Inquiry::OtherMethod(Method::Get)
+        Inquiry::OtherMethod(Methods::Only(Method::Get))
     }
 }
 
@@ -176,7 +176,7 @@ fn forms_asked(method: &[u8]) -> Inquiry
     if is_method(method, Method::Get) {
         Inquiry::Forms
     } else {
-        Inquiry::OtherMethod(Method::Get)
+        Inquiry::OtherMethod(Methods::Only(Method::Get))
     }
 }
 

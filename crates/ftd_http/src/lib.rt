@@ -20,7 +20,7 @@ mod route;
 mod status;
 mod values;
 
-pub use crate::ask::{Inquiry, Payable, method_bytes, what_is_asked};
+pub use crate::ask::{Inquiry, Methods, Payable, method_bytes, what_is_asked};
 pub use crate::controls::{Control, are_of_form, read_controls, text_at};
 pub use crate::form_fields::read_form;
 pub use crate::lengths::{BODY_LIMIT, number_in};

@@ -13,8 +13,9 @@ use Rattle.ftd_answers.specs.declared.formats.ListFormat.TheVariants.{Text, Csv,
 use Rattle.ftd_pages.specs.declared.style.TheConstants.{STYLE}
 use Rattle.ftd_verbs.specs.declared.formats.AnswerFormat.{AnswerFormat}
 use Rattle.ftd_verbs.specs.declared.formats.AnswerFormat.TheVariants.{Plain, Page}
-use Rattle.ftd_verbs.specs.declared.rows.Method.{Method}
 use Rattle.ftd_http.specs.Methods.{method_text}
+use Rattle.ftd_http.specs.declared.ask.Methods.{Methods}
+use Rattle.ftd_http.specs.declared.ask.Methods.TheVariants.{GetAndPost, Only}
 use Rattle.ftd_server.specs.declared.response.Content.{Content}
 use Rattle.ftd_server.specs.declared.response.Content.TheVariants as content
 use Rattle.ftd_server.specs.declared.response.OwedPage.{OwedPage}
@@ -24,7 +25,7 @@ use Rattle.ftd_server.specs.declared.response.Response.{Response}
 -- which it leads (if it leads to one), what its body is, and the body
 pub record Said : Type 0 where
   pub status : Status
-  pub allow : Option Method
+  pub allow : Option Methods
   pub location : Option OwedPage
   pub content : Content
   pub body : List ℕ
@@ -49,8 +50,8 @@ bare status = record {
 }
 
 -- the response where the route has another method, which it names
-abbrev pub other_method : Method → Said
-other_method method = record (bare status.MethodNotAllowed) { allow = Some method }
+abbrev pub other_method : Methods → Said
+other_method methods = record (bare status.MethodNotAllowed) { allow = Some methods }
 
 -- the response that leads to the page of what is owed
 abbrev pub see_owed : OwedPage → Said
@@ -109,9 +110,13 @@ status_text status.InternalServerError = codes "500 Internal Server Error"
 status_text status.NotImplemented = codes "501 Not Implemented"
 
 -- the lines that not every response has
-abbrev pub allow_line : Option Method → List ℕ
+abbrev pub methods_text : Methods → List ℕ
+methods_text (Only method) = method_text method
+methods_text GetAndPost = codes "GET, POST"
+
+abbrev pub allow_line : Option Methods → List ℕ
 allow_line None = []
-allow_line (Some m) = codes "Allow: " ++ method_text m ++ line_end
+allow_line (Some methods) = codes "Allow: " ++ methods_text methods ++ line_end
 
 unfoldable pub owed_line : OwedPage → List ℕ
 owed_line page =
@@ -150,7 +155,7 @@ abbrev pub connection_line : Bool → List ℕ
 connection_line false = []
 connection_line true = codes "Connection: close" ++ line_end
 
--- the status, and the method of the route
+-- the status, and the methods of the target
 unfoldable pub start_text : Said → List ℕ
 start_text said = concat (
     codes "HTTP/1.1 " ∷ status_text said.status ∷ line_end ∷ allow_line said.allow ∷ [])

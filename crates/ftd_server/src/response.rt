@@ -13,7 +13,7 @@ ghost use Rattle.ftd_server.specs.Responses.{text};
 
 use ftd_answers::{Format, ListFormat, Value, day_bytes, write_object};
 use ftd_days::Day;
-use ftd_http::Status;
+use ftd_http::{Methods, Status};
 use ftd_pages::STYLE;
 use ftd_ports::{Port, Target, WriteFault, write_all, write_pieces};
 use ftd_verbs::{AnswerFormat, Method};
@@ -54,7 +54,7 @@ pub struct Response {
     /// Its status.
     pub status: Status,
     /// The method that the route has, where the message has another.
-    pub allow: Option<Method>,
+    pub allow: Option<Methods>,
     /// The page to which it leads, where it leads to one.
     pub location: Option<OwedPage>,
     /// What the body is.
@@ -77,7 +77,7 @@ pub fn bare_response(alloc: Global, status: Status) -> Response
 }
 
 /// The response where the route has another method.
-pub fn other_method(alloc: Global, allow: Method) -> Response
+pub fn other_method(alloc: Global, allow: Methods) -> Response
     ensures { said_of result ≡ other_method allow }
 {
     Response {
@@ -348,16 +348,17 @@ fn status_text(status: Status) -> &'static [u8]
     }
 }
 
-/// The line with the method of the route.
-fn allow_line(allow: Option<Method>) -> &'static [u8]
+/// The line with the methods of the target.
+fn allow_line(allow: Option<Methods>) -> &'static [u8]
     ensures { result.now ≡ allow_line allow }
 {
     match allow {
         None => b"",
-        Some(Method::Get) => b"Allow: GET\r\n",
-        Some(Method::Post) => b"Allow: POST\r\n",
-        Some(Method::Put) => b"Allow: PUT\r\n",
-        Some(Method::Delete) => b"Allow: DELETE\r\n",
+        Some(Methods::Only(Method::Get)) => b"Allow: GET\r\n",
+        Some(Methods::Only(Method::Post)) => b"Allow: POST\r\n",
+        Some(Methods::Only(Method::Put)) => b"Allow: PUT\r\n",
+        Some(Methods::Only(Method::Delete)) => b"Allow: DELETE\r\n",
+        Some(Methods::GetAndPost) => b"Allow: GET, POST\r\n",
     }
 }
 
