@@ -27,15 +27,18 @@ schedule_of account day = request.Question (question.Status account day)
 abbrev pub due_of : List ℕ → ℕ → ℕ → Request
 due_of account quarter as_of = request.Question (question.DueList account quarter as_of)
 
+abbrev pub schedule_b_of : List ℕ → ℕ → Request
+schedule_b_of account quarter = request.Question (question.ScheduleB account quarter)
+
 abbrev pub years_of : List ℕ → Request
 years_of account = request.Question (question.Kept (kept.Years account))
 
--- of a day: the deposit schedule, and what is due for the quarter of the day and for the one
--- before, as of the day
+-- of a day: the deposit schedule, what is due for the quarter of the day and for the one before, as
+-- of the day, and the liability of the quarter by day, which an account that files Form 943 has not
 abbrev pub day_questions : List ℕ → ℕ → List Request
 day_questions account day =
     schedule_of account day ∷ due_of account (quarter_of day) day
-    ∷ due_of account (quarter_of day - 1) day ∷ []
+    ∷ due_of account (quarter_of day - 1) day ∷ schedule_b_of account (quarter_of day) ∷ []
 
 -- what it asks of the day of today, if it is known, and the open years
 abbrev pub page_questions : Option ℕ → List ℕ → List Request

@@ -6,7 +6,7 @@ ghost use Rattle.ftd_desk.specs.Desks.{IsStopped, held};
 ghost use Rattle.ftd_desk.specs.Words.{HandlesAll};
 ghost use Rattle.ftd_server.specs.Accounts.{TellsAccount, account_said, day_questions, is_told};
 ghost use Rattle.ftd_server.specs.Accounts.{due_of, nothing_told, page_of_account, page_questions};
-ghost use Rattle.ftd_server.specs.Accounts.{said_to, schedule_of, years_of};
+ghost use Rattle.ftd_server.specs.Accounts.{said_to, schedule_b_of, schedule_of, years_of};
 ghost use Rattle.ftd_server.specs.Responses.{Said, said_of};
 
 use crate::facts::server_frame;
@@ -42,6 +42,14 @@ fn due_of(alloc: Global, account: &str, quarter: Quarter, as_of: Day) -> Result<
     }))
 }
 
+/// What asks for the liability of an account's quarter by day.
+fn schedule_b_of(alloc: Global, account: &str, quarter: Quarter) -> Result<Request, AllocError>
+    ensures { IfOk result (λ request. request ≡ schedule_b_of account.now quarter) }
+{
+    let account = AccountName::copy_of(alloc, account)?;
+    Ok(Request::Question(Question::ScheduleB { account, quarter }))
+}
+
 /// What asks for the open years of an account.
 fn years_of(alloc: Global, account: &str) -> Result<Request, AllocError>
     ensures { IfOk result (λ request. request ≡ years_of account.now) }
@@ -50,8 +58,8 @@ fn years_of(alloc: Global, account: &str) -> Result<Request, AllocError>
     Ok(Request::Question(Question::Kept(KeptList::Years { account })))
 }
 
-/// Adds what the page asks of a day: the deposit schedule, and what is due for the quarter of the
-/// day and for the one before, as of the day.
+/// Adds what the page asks of a day: the deposit schedule, what is due for the quarter of the day
+/// and for the one before, as of the day, and the liability of the quarter by day.
 fn push_day_questions(
     alloc: Global,
     account: &str,
@@ -66,6 +74,7 @@ fn push_day_questions(
     requests.push(schedule_of(alloc, account, day)?)?;
     requests.push(due_of(alloc, account, quarter, day)?)?;
     requests.push(due_of(alloc, account, before, day)?)?;
+    requests.push(schedule_b_of(alloc, account, quarter)?)?;
     Ok(())
 }
 
@@ -184,10 +193,12 @@ fn response_to(
 
 /// The response with the page of an account on the day of today, if it is known: its deposit
 /// schedule, what is due for the quarter of the day and for the one before, and its open years, a
-/// section each. What the desk refuses has no section; where it refuses all, as of an account that
-/// it has not, the response is a page that tells the first refusal. Where there is no memory to
-/// ask, the response says so by its status, and the desk stays as it was; an error says that there
-/// was none for the response.
+/// section each. The liability of the quarter by day is asked too. It has no section: where it is
+/// refused since the account files Form 943, the page links the lists and the forms of that return.
+/// What the desk refuses has no section; where it refuses all, as of an account that it has not,
+/// the response is a page that tells the first refusal. Where there is no memory to ask, the
+/// response says so by its status, and the desk stays as it was; an error says that there was none
+/// for the response.
 pub fn account_response<S: Alter>(
     alloc: Global,
     desk: &mut Desk<S>,

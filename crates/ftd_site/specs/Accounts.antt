@@ -3,6 +3,8 @@ use Rattle.std.specs.Prelude.{ℕ, List, [], ◌∷◌, ◌++◌, codes}
 use Rattle.std.specs.List.{flat_map}
 use Rattle.ftd_days.specs.Calendar.{quarter_of}
 use Rattle.ftd_days.specs.Text.{day_text, quarter_text}
+use Rattle.ftd_rules.specs.declared.Form.{Form}
+use Rattle.ftd_rules.specs.declared.Form.TheVariants.{F941, F943}
 use Rattle.ftd_site.specs.FormLists.{account_forms}
 use Rattle.ftd_pages.specs.Links.{address_in_page, link}
 use Rattle.ftd_site.specs.declared.accounts.AccountList.{AccountList}
@@ -46,18 +48,24 @@ list_link account today Payments =
 abbrev pub list_line : List ℕ → ℕ → AccountList → List ℕ
 list_line account today list = list_link account today list ++ codes "\n"
 
+-- the lists of an account that files this form: Form 943 has no Schedule B
+abbrev pub lists_of : Form → List AccountList
+lists_of F941 = Years ∷ Reported ∷ Due ∷ ScheduleB ∷ Runs ∷ Payments ∷ []
+lists_of F943 = Years ∷ Reported ∷ Due ∷ Runs ∷ Payments ∷ []
+
+abbrev pub list_lines : List ℕ → ℕ → Form → List ℕ
+list_lines account today form = flat_map (list_line account today) (lists_of form)
+
 -- the links to the lists of an account
-unfoldable pub account_nav : List ℕ → ℕ → List ℕ
-account_nav account today =
-    codes "<nav aria-label=\"Account\">\n"
-    ++ (flat_map (list_line account today)
-    (Years ∷ Reported ∷ Due ∷ ScheduleB ∷ Runs ∷ Payments ∷ []) ++ codes "</nav>\n")
+unfoldable pub account_nav : List ℕ → Form → ℕ → List ℕ
+account_nav account form today =
+    codes "<nav aria-label=\"Account\">\n" ++ (list_lines account today form ++ codes "</nav>\n")
 
 -- these, and the links to the forms that name the account
-abbrev pub account_links : List ℕ → ℕ → List ℕ
-account_links account today = account_nav account today ++ account_forms account
+abbrev pub account_links : List ℕ → Form → ℕ → List ℕ
+account_links account form today = account_nav account form today ++ account_forms account form
 
 -- on a page without ways there are none
-abbrev pub account_ways : Ways → List ℕ → List ℕ
-account_ways Nowhere account = []
-account_ways (From today until) account = account_links account today
+abbrev pub account_ways : Ways → List ℕ → Form → List ℕ
+account_ways Nowhere account form = []
+account_ways (From today until) account form = account_links account form today

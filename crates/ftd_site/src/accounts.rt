@@ -3,7 +3,7 @@
 ghost use Rattle.ftd_days.specs.Calendar.{quarter_of};
 ghost use Rattle.ftd_ports.specs.Writing.{Writes};
 ghost use Rattle.ftd_site.specs.Accounts.{account_nav, account_ways, list_address, list_line};
-ghost use Rattle.ftd_site.specs.Accounts.{account_links, list_link, quarter_address};
+ghost use Rattle.ftd_site.specs.Accounts.{account_links, list_lines, list_link, quarter_address};
 ghost use Rattle.ftd_pages.specs.Links.{link};
 ghost use Rattle.ftd_site.specs.declared.accounts.AccountList.TheVariants.{Due};
 
@@ -12,6 +12,7 @@ use ftd_answers::{RowFormat, Value, write_rows};
 use ftd_days::Day;
 use ftd_pages::{Ways, write_link};
 use ftd_ports::{Target, WriteFault, write_all};
+use ftd_rules::Form;
 
 /// A list of an account.
 #[derive(Clone, Copy, Debug)]
@@ -30,12 +31,21 @@ pub enum AccountList {
     Payments,
 }
 
-/// The lists that the page of an account links.
-const LISTS: [AccountList; 6] = [
+/// The lists that the page of an account links that files Form 941.
+const LISTS_941: [AccountList; 6] = [
     AccountList::Years,
     AccountList::Reported,
     AccountList::Due,
     AccountList::ScheduleB,
+    AccountList::Runs,
+    AccountList::Payments,
+];
+
+/// The lists that the page of an account links that files Form 943, which has no Schedule B.
+const LISTS_943: [AccountList; 5] = [
+    AccountList::Years,
+    AccountList::Reported,
+    AccountList::Due,
     AccountList::Runs,
     AccountList::Payments,
 ];
@@ -145,40 +155,63 @@ impl<'a> RowFormat<AccountList> for ListLinks<'a> {
     }
 }
 
-/// Writes the links to the lists of an account.
-fn write_account_nav<W: Target>(account: &str, today: Day, target: &mut W) -> Result<(), WriteFault>
+/// Writes the links to the lists of an account that files this form, a line each.
+fn write_list_lines<W: Target>(
+    links: &ListLinks<'_>,
+    form: Form,
+    target: &mut W,
+) -> Result<(), WriteFault>
     ensures { Writes result (W.taken target.old) (W.taken target.new)
-        (W.failed target.new) (account_nav account.now today) }
+        (W.failed target.new) (list_lines links.now.account.now links.now.today form) }
 {
-    write_all(target, b"<nav aria-label=\"Account\">\n")?;
-    write_rows(&ListLinks { account, today }, &LISTS, target)?;
-    write_all(target, b"</nav>\n")
+    match form {
+        Form::F941 => write_rows(links, &LISTS_941, target),
+        Form::F943 => write_rows(links, &LISTS_943, target),
+    }
 }
 
-/// Writes the links to the lists of an account, and to the forms that name it.
-fn write_account_links<W: Target>(
+/// Writes the links to the lists of an account that files this form.
+fn write_account_nav<W: Target>(
     account: &str,
+    form: Form,
     today: Day,
     target: &mut W,
 ) -> Result<(), WriteFault>
     ensures { Writes result (W.taken target.old) (W.taken target.new)
-        (W.failed target.new) (account_links account.now today) }
+        (W.failed target.new) (account_nav account.now form today) }
 {
-    write_account_nav(account, today, target)?;
-    write_account_forms(account, target)
+    write_all(target, b"<nav aria-label=\"Account\">\n")?;
+    write_list_lines(&ListLinks { account, today }, form, target)?;
+    write_all(target, b"</nav>\n")
 }
 
-/// Writes the links to the lists of an account, and to its forms, if the page has ways.
-pub fn write_account_ways<W: Target>(
-    ways: Ways,
+/// Writes the links to the lists of an account that files this form, and to the forms that name it.
+fn write_account_links<W: Target>(
     account: &str,
+    form: Form,
+    today: Day,
     target: &mut W,
 ) -> Result<(), WriteFault>
     ensures { Writes result (W.taken target.old) (W.taken target.new)
-        (W.failed target.new) (account_ways ways account.now) }
+        (W.failed target.new) (account_links account.now form today) }
+{
+    write_account_nav(account, form, today, target)?;
+    write_account_forms(account, form, target)
+}
+
+/// Writes the links to the lists of an account that files this form, and to its forms, if the page
+/// has ways.
+pub fn write_account_ways<W: Target>(
+    ways: Ways,
+    account: &str,
+    form: Form,
+    target: &mut W,
+) -> Result<(), WriteFault>
+    ensures { Writes result (W.taken target.old) (W.taken target.new)
+        (W.failed target.new) (account_ways ways account.now form) }
 {
     match ways {
         Ways::Nowhere => Ok(()),
-        Ways::From { today, .. } => write_account_links(account, today, target),
+        Ways::From { today, .. } => write_account_links(account, form, today, target),
     }
 }

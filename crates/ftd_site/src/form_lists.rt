@@ -1,13 +1,14 @@
 //! Links to forms: those of the page that lists them, and of the page of an account.
 
 ghost use Rattle.ftd_ports.specs.Writing.{Writes};
-ghost use Rattle.ftd_site.specs.FormLists.{account_form_line, account_forms, form_line};
-ghost use Rattle.ftd_site.specs.FormLists.{form_list, form_way, office_forms};
+ghost use Rattle.ftd_site.specs.FormLists.{account_form_line, account_form_lines, account_forms};
+ghost use Rattle.ftd_site.specs.FormLists.{form_line, form_list, form_way, office_forms};
 
 use crate::form_words::title;
 use ftd_answers::{RowFormat, Value, write_rows};
 use ftd_pages::{Frame, write_end, write_link, write_start};
 use ftd_ports::{Target, WriteFault, write_all};
+use ftd_rules::Form;
 use ftd_verbs::Verb;
 
 /// The forms that name no account, or a new one.
@@ -18,16 +19,26 @@ const OFFICE_FORMS: [Verb; 4] = [
     Verb::ChangeHoliday,
 ];
 
-/// The forms that name an account.
-const ACCOUNT_FORMS: [Verb; 10] = [
+/// The forms that name an account that files Form 941.
+const FORMS_941: [Verb; 8] = [
     Verb::Post,
     Verb::Pay,
     Verb::OpenYear,
     Verb::Report,
-    Verb::ReportYear,
     Verb::Void,
     Verb::VoidPay,
     Verb::CorrectReport,
+    Verb::CorrectAccount,
+];
+
+/// The forms that name an account that files Form 943: a total is that of a year.
+const FORMS_943: [Verb; 8] = [
+    Verb::Post,
+    Verb::Pay,
+    Verb::OpenYear,
+    Verb::ReportYear,
+    Verb::Void,
+    Verb::VoidPay,
     Verb::CorrectReportYear,
     Verb::CorrectAccount,
 ];
@@ -104,14 +115,36 @@ pub fn write_form_way<W: Target>(
     }
 }
 
-/// Writes the links to the forms that name an account, with this one filled in.
-#[tactic(auto, using(ftd_ports::proofs::WritingFacts::written_in_parts), unfolding(crate::specs::FormLists::account_forms))]
-pub fn write_account_forms<W: Target>(account: &str, target: &mut W) -> Result<(), WriteFault>
+/// Writes the links to the forms that name an account that files this form, with the account filled
+/// in, a line each.
+fn write_account_form_lines<W: Target>(
+    account: &str,
+    form: Form,
+    target: &mut W,
+) -> Result<(), WriteFault>
     ensures { Writes result (W.taken target.old) (W.taken target.new)
-        (W.failed target.new) (account_forms account.now) }
+        (W.failed target.new) (account_form_lines account.now form) }
+{
+    let links = AccountFormLinks { account };
+    match form {
+        Form::F941 => write_rows(&links, &FORMS_941, target),
+        Form::F943 => write_rows(&links, &FORMS_943, target),
+    }
+}
+
+/// Writes the links to the forms that name an account that files this form, with the account filled
+/// in.
+#[tactic(auto, using(ftd_ports::proofs::WritingFacts::written_in_parts), unfolding(crate::specs::FormLists::account_forms))]
+pub fn write_account_forms<W: Target>(
+    account: &str,
+    form: Form,
+    target: &mut W,
+) -> Result<(), WriteFault>
+    ensures { Writes result (W.taken target.old) (W.taken target.new)
+        (W.failed target.new) (account_forms account.now form) }
 {
     write_all(target, b"<nav aria-label=\"Enter\">\n")?;
-    write_rows(&AccountFormLinks { account }, &ACCOUNT_FORMS, target)?;
+    write_account_form_lines(account, form, target)?;
     write_all(target, b"</nav>\n")
 }
 
