@@ -65,7 +65,7 @@ fn serve_first<D: Disk + Drop>(
         tell_made(rt, &task.db);
     }
     let mut taken = None;
-    if is_announced(rt, room.listener()) {
+    if is_announced(rt, task, room.listener()) {
         taken = Some(serve_until(rt, task, room, 0, &mut shell));
     }
     closed_after(shell, taken.is_none_or(|it| it >= task.connections))?;
@@ -100,9 +100,9 @@ fn closed_after<D: Disk + Drop>(
 }
 
 /// Whether it was told at which port the server listens.
-fn is_announced(rt: &HostRuntime, listener: &TcpListener) -> bool {
+fn is_announced(rt: &HostRuntime, task: &ServeTask, listener: &TcpListener) -> bool {
     let (mut out, mut err) = (Port::new(io::writer(rt)), Port::new(rt.stderr()));
-    announce(listener, &mut out, &mut err).is_ok()
+    announce(listener, task.port, &mut out, &mut err).is_ok()
 }
 
 /// Serves connections after so many others, until all are served or the shell's desk does not

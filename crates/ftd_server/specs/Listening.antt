@@ -1,5 +1,5 @@
 -- What a server tells, and its connections one after the other.
-use Rattle.std.specs.Prelude.{◌≡◌, ℕ, ◌+◌, List, [], ◌∷◌, ◌++◌, length, All, Bool, true}
+use Rattle.std.specs.Prelude.{◌≡◌, ◌≢◌, ℕ, ◌+◌, List, [], ◌∷◌, ◌++◌, length, All, Bool, true}
 use Rattle.std.specs.Prelude.{Option, Some, None, Result, Ok, Err, codes}
 use Rattle.std.specs.Fmt.{decimal}
 use Rattle.std.specs.Io.KnownBytes.{Appends, Keeps}
@@ -71,13 +71,21 @@ IsToldMore told result now after failed_now failed_after line =
     (before : Option (List ℕ)) (text : List ℕ) → IsTold told before now failed_now text
     → IsTold result before after failed_after (text ++ line)
 
+-- the port of a listener that was bound at the one that was asked for: that one, or where that is
+-- any, 0, one that the system gave
+abbrev pub IsPortFor : ℕ → ℕ → Type 0
+IsPortFor asked port = asked ≢ 0 → port ≡ asked
+
 -- the line of the port was told, the listener had none to tell, or the target failed after a prefix
 -- of it
-abbrev pub IsAnnounced : Result (Unit {0}) Stop → Option (List ℕ) → Option (List ℕ) → Bool → Type 0
-IsAnnounced (Ok done) before after failed = (port : ℕ) × Appends before after (listening_line port)
-IsAnnounced (Err stop.Net) before after failed = Keeps before after
-IsAnnounced (Err stop.Output) before after failed =
-    (port : ℕ) × WritesPrefix before after (listening_line port) × (failed ≡ true)
+abbrev pub IsAnnounced : ℕ → Result (Unit {0}) Stop → Option (List ℕ) → Option (List ℕ) → Bool
+    → Type 0
+IsAnnounced asked (Ok done) before after failed =
+    (port : ℕ) × IsPortFor asked port × Appends before after (listening_line port)
+IsAnnounced asked (Err stop.Net) before after failed = Keeps before after
+IsAnnounced asked (Err stop.Output) before after failed =
+    (port : ℕ) × IsPortFor asked port × WritesPrefix before after (listening_line port)
+    × (failed ≡ true)
 
 module _ {D : Type 0} (serve : D → Outcome → D → Type 0) (ask : D → Bool → D → Type 0) where
   -- one connection, and then the question whether what serves it still answers

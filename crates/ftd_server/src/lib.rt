@@ -42,4 +42,4 @@ pub use crate::response::{
 pub use crate::serving::{Limits, serve_on};
 pub use crate::stop::Stop;
 pub use crate::timed::{TimedStream, Timer};
-pub use crate::wire::Wire;
+pub use crate::wire::{Waits, Wire};

@@ -52,6 +52,7 @@ fn serve_one<By, M: Machine<By>, R: Clock + AllocGlobal>(
     let mut source = Wire::new(
         &timer,
         stream,
+        stream,
         seconds(limits.idle),
         seconds(limits.silence),
     );

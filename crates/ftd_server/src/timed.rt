@@ -1,7 +1,6 @@
 //! Streams that are read and written until a time is over.
 
 use std::io::{Error, ErrorKind, Read, Result, Write};
-use std::net::TcpStream;
 use std::time::{Clock, Duration, Instant};
 
 /// A time that has begun, and is over after so long.
@@ -43,36 +42,48 @@ impl<'a, C: Clock> Timer<'a, C> {
 }
 
 /// A stream that is read and written until a time is over: later reads and writes fail, also those
-/// of a peer that sends or takes a byte now and then. Where the clock fails, they do.
+/// of a peer that sends or takes a byte now and then. Where the clock fails, they do. What it gives
+/// and takes is what the stream gives and takes.
 #[derive(Drop)]
-pub struct TimedStream<'a, C> {
+pub struct TimedStream<'a, C, S> {
     timer: &'a Timer<'a, C>,
-    stream: &'a TcpStream,
+    stream: S,
 }
 
-impl<'a, C: Clock> TimedStream<'a, C> {
+impl<'a, C: Clock, S> TimedStream<'a, C, S> {
+    ghost use Rattle.std.specs.Prelude.{◌≡◌};
+    ghost use Rattle.ftd_server.specs.Wires.{stream_of};
+
     /// The stream, until the time is over.
-    pub fn new(timer: &'a Timer<'a, C>, stream: &'a TcpStream) -> TimedStream<'a, C> {
+    pub fn new(timer: &'a Timer<'a, C>, stream: S) -> TimedStream<'a, C, S>
+        ensures { stream_of result ≡ stream }
+    {
         TimedStream { timer, stream }
     }
 }
 
-impl<'a, C: Clock> Read for TimedStream<'a, C> {
+impl<'a, C: Clock, S: Read> Read for TimedStream<'a, C, S> {
+    ghost use Rattle.ftd_server.specs.Wires.{stream_of};
+
+    ghost remaining = { λ timed. S.remaining (stream_of timed) };
+
     fn read(&mut self, buf: &mut [u8]) -> Result<usize> {
         self.timer.check()?;
-        let mut stream = self.stream;
-        stream.read(buf)
+        self.stream.read(buf)
     }
 }
 
-impl<'a, C: Clock> Write for TimedStream<'a, C> {
+impl<'a, C: Clock, S: Write> Write for TimedStream<'a, C, S> {
+    ghost use Rattle.ftd_server.specs.Wires.{stream_of};
+
+    ghost contents = { λ timed. S.contents (stream_of timed) };
+
     fn write(&mut self, bytes: &[u8]) -> Result<usize> {
         self.timer.check()?;
-        let mut stream = self.stream;
-        stream.write(bytes)
+        self.stream.write(bytes)
     }
 
     fn flush(&mut self) -> Result<()> {
-        Ok(())
+        self.stream.flush()
     }
 }

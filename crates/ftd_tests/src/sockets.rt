@@ -40,7 +40,7 @@ fn served(rt: &HostRuntime, listener: &TcpListener, count: u32) -> Result<(u32, 
 /// The port is told.
 fn is_announced(rt: &impl Abort, alloc: Global, listener: &TcpListener) -> Result<(), Fail> {
     let (mut out, mut err) = (Port::new(Vec::new(alloc)), Port::new(Vec::new(alloc)));
-    assert_eq!(rt; announce(listener, &mut out, &mut err), Ok(()));
+    assert_eq!(rt; announce(listener, 0, &mut out, &mut err), Ok(()));
     let port = listener.local_addr()?.port();
     let line = format!(in alloc; "listening 127.0.0.1:{port}\n")?;
     are_same(rt, out.into_inner().as_slice(), line.as_bytes());
@@ -104,7 +104,7 @@ fn a_port_that_can_not_be_told_is_a_stop(rt: HostRuntime) -> Result<(), Fail> {
         room: 5,
     });
     let mut err = Port::new(Vec::new(alloc));
-    let announced = announce(&listener, &mut out, &mut err);
+    let announced = announce(&listener, 0, &mut out, &mut err);
     assert_eq!(rt; announced, Err(Stop::Output));
     let Taker { taken, room: _ } = out.into_inner();
     are_same(&rt, taken.as_slice(), b"liste");
