@@ -1,4 +1,3 @@
-pub mod Beginnings
 pub mod Answered
 pub mod Written
 pub mod Journals

@@ -2,9 +2,9 @@
 
 ghost use Rattle.std.specs.Prelude.{ℕ, Bool, List, None, Option};
 
-use crate::beginning::{Beginning, of_job};
 use ftd_cli::{Line, Piece, Task, command_words, decide_today, next_piece, read_line};
 use ftd_files::{ProgramFault, SystemClock, unread_text};
+use ftd_local::{Beginning, beginning_of};
 use ftd_shell::{Script, Unread};
 use std::alloc::AllocError;
 use std::io::BufRead;
@@ -97,7 +97,7 @@ fn of_line(rt: &HostRuntime, db: &str, line: &[u8]) -> Result<Option<Beginning>,
         Line::Command(words) => command_words(rt.alloc(), db, &words)?,
     };
     match decide_today(rt.alloc(), &mut SystemClock::new(rt), &words) {
-        Ok(Task::Local(task)) => Ok(Some(of_job(&task.job))),
+        Ok(Task::Local(task)) => Ok(Some(beginning_of(&task.job))),
         _ => Ok(Some(Beginning::Tells)),
     }
 }

@@ -2,7 +2,6 @@
 //! over the connections of a server, or asked of a server that runs.
 #![tactic(auto)]
 
-mod beginning;
 mod client;
 mod commands;
 mod jobs;

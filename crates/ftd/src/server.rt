@@ -3,12 +3,13 @@
 use crate::commands::{server_desk, server_shell};
 use crate::shell::Around;
 use ftd_cli::ServeTask;
-use ftd_files::{ProgramFault, close_files, desk_of, is_new, open_with_short_log, tell_made};
+use ftd_desk::Desk;
+use ftd_files::{DeskFiles, FileAt, ProgramFault, SupposesNothing, close_desk, is_new, tell_made};
 use ftd_ports::Port;
 use ftd_server::{Limits, announce, serve_on};
 use ftd_shell::Shell;
 use ftd_waiting::WaitingRoom;
-use sqlite::{Alter, Connection, FileStore};
+use sqlite::{Alter, FileStore};
 use sqlite_disk::Disk;
 use std::io;
 use std::net::TcpListener;
@@ -24,9 +25,9 @@ pub fn serve_file(rt: &HostRuntime, task: &ServeTask) -> Result<u8, ProgramFault
         return Err(ProgramFault::Net);
     };
     let is_new = is_new(rt, &task.db)?;
-    let conn = open_with_short_log(rt, &task.db, task.wait)?;
+    let desk = file_of(rt, task, task.wait).open_desk()?;
     let mut room = WaitingRoom::new(rt, &listener);
-    let Some(mut taken) = serve_first(rt, task, &mut room, conn, is_new)? else {
+    let Some(mut taken) = serve_first(rt, task, &mut room, desk, is_new)? else {
         return Ok(3);
     };
     // Each turn takes one connection at least.
@@ -34,33 +35,43 @@ pub fn serve_file(rt: &HostRuntime, task: &ServeTask) -> Result<u8, ProgramFault
         if taken >= task.connections {
             break;
         }
-        let conn = open_with_short_log(rt, &task.db, task.wait.max(REOPENING))?;
-        taken = serve_again(rt, task, &mut room, taken, conn)?;
+        let desk = file_of(rt, task, task.wait.max(REOPENING)).open_desk()?;
+        taken = serve_again(rt, task, &mut room, taken, desk)?;
     }
     Ok(0)
 }
 
-/// The shell of a server over the tables in files.
+/// The file of a server's desk, which is tried for so many seconds.
+fn file_of<'a>(rt: &'a HostRuntime, task: &'a ServeTask, wait: u32) -> FileAt<'a, SupposesNothing> {
+    FileAt {
+        rt,
+        db: &task.db,
+        wait,
+        has_short_log: true,
+        start: SupposesNothing,
+    }
+}
+
+/// The shell of a server with the desk of files.
 fn shell_of<'a, D: Disk + Drop>(
     rt: &'a HostRuntime,
     task: &ServeTask,
-    conn: Connection<FileStore<D>>,
+    desk: Desk<FileStore<D>>,
 ) -> Result<Shell<FileStore<D>, Around<'a>>, ProgramFault> {
-    let desk = desk_of(rt, conn)?;
     let db = String::from_str(rt.alloc(), &task.db)?;
     Ok(server_shell(rt.alloc(), db, desk, Around::new(rt, true)))
 }
 
-/// Tells at which port the server listens, and serves connections over the tables in files, which
+/// Tells at which port the server listens, and serves connections with the desk of files, which
 /// are closed; how many were taken. None if the port could not be told.
 fn serve_first<D: Disk + Drop>(
     rt: &HostRuntime,
     task: &ServeTask,
     room: &mut WaitingRoom<'_>,
-    conn: Connection<FileStore<D>>,
+    desk: Desk<FileStore<D>>,
     is_new: bool,
 ) -> Result<Option<u32>, ProgramFault> {
-    let mut shell = shell_of(rt, task, conn)?;
+    let mut shell = shell_of(rt, task, desk)?;
     if is_new {
         tell_made(rt, &task.db);
     }
@@ -79,9 +90,9 @@ fn serve_again<D: Disk + Drop>(
     task: &ServeTask,
     room: &mut WaitingRoom<'_>,
     taken: u32,
-    conn: Connection<FileStore<D>>,
+    desk: Desk<FileStore<D>>,
 ) -> Result<u32, ProgramFault> {
-    let mut shell = shell_of(rt, task, conn)?;
+    let mut shell = shell_of(rt, task, desk)?;
     let taken = serve_until(rt, task, room, taken, &mut shell);
     closed_after(shell, taken >= task.connections)?;
     Ok(taken)
@@ -93,9 +104,9 @@ fn closed_after<D: Disk + Drop>(
     shell: Shell<FileStore<D>, Around<'_>>,
     is_last: bool,
 ) -> Result<(), ProgramFault> {
-    match close_files(server_desk(shell)) {
+    match close_desk(server_desk(shell)) {
         Err(fault) if is_last => Err(fault),
-        Ok(()) | Err(_) => Ok(()),
+        Ok(_) | Err(_) => Ok(()),
     }
 }
 

@@ -2,16 +2,16 @@
 
 ghost use Rattle.std.specs.Prelude.{ℕ, Option};
 
-use crate::beginning::Beginning;
 use crate::jobs::report_fault;
 use crate::lines::{Lines, read_ahead, unread};
 use ftd_cli::{DayClock, ShellTask};
 use ftd_days::Day;
 use ftd_desk::Desk;
 use ftd_files::{
-    ProgramFault, SystemClock, close_files, desk_of, import_input, is_new, open_with_short_log,
-    tell_made,
+    DeskFiles, FileAt, ProgramFault, SupposesNothing, SystemClock, close_desk, import_input,
+    is_new, tell_made,
 };
+use ftd_local::Beginning;
 use ftd_ports::{Port, write_all};
 use ftd_shell::{Inputs, Script, Shell, Shows, Unread};
 use sqlite::FileStore;
@@ -97,7 +97,7 @@ fn over_files<D: Disk + Drop, L: Script + Drop>(
         does_imports: _,
         shows: _,
     } = shell;
-    close_files(desk)?;
+    close_desk(desk)?;
     Ok(status)
 }
 
@@ -108,8 +108,14 @@ fn over_file<L: Script + Drop>(
     names_lines: bool,
     script: L,
 ) -> Result<u8, ProgramFault> {
-    let conn = open_with_short_log(rt, &task.db, task.wait)?;
-    over_files(rt, task, desk_of(rt, conn)?, names_lines, script)
+    let file = FileAt {
+        rt,
+        db: task.db.as_str(),
+        wait: task.wait,
+        has_short_log: true,
+        start: SupposesNothing,
+    };
+    over_files(rt, task, file.open_desk()?, names_lines, script)
 }
 
 /// Answers the lines of a script where the file is not there: the first that asks something says

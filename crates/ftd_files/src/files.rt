@@ -1,11 +1,17 @@
-//! The database file, and the desk over its tables.
+//! The database file and its log.
+
+ghost use Rattle.std.specs.Prelude.{IfOk, false, true};
+ghost use Rattle.sqlite_std_file.specs.File.{IsFresh};
 
 use crate::faults::ProgramFault;
-use ftd_desk::Desk;
-use sqlite::{Connection, FileStore};
-use sqlite_disk::Disk;
+use sqlite::{Files, Start, Unknown};
+use sqlite_std_file::FileFrom;
 use std::alloc::AllocError;
-use std::fs;
+use std::time::Duration;
+use std::{fs, thread};
+
+/// How often in a second a file is tried that another program has open.
+const TRIES: u64 = 20;
 
 /// The length of a log without frames, in bytes. A log has them only once its file is made.
 const EMPTY_LOG: u64 = 41;
@@ -29,26 +35,58 @@ pub(crate) fn log_of(rt: &HostRuntime, db: &str) -> Result<String, AllocError> {
     }
 }
 
-/// The desk over the tables of a database, which are made if they are not there. If they can't be
-/// used, the files are closed.
-pub fn desk_of<D: Disk + Drop>(
-    rt: &HostRuntime,
-    conn: Connection<FileStore<D>>,
-) -> Result<Desk<FileStore<D>>, ProgramFault> {
-    match Desk::open(rt.alloc(), conn) {
-        Ok(desk) => Ok(desk),
-        Err(refused) => {
-            let _ = refused.connection.close();
-            Err(refused.fault.into())
-        }
+/// What is supposed of a file and its log as they are opened. What is proved over any `S` holds
+/// whatever they hold, which no code can read.
+pub trait Supposes<S: Start> {
+    /// It is supposed once more, as for another try.
+    fn suppose(&self) -> S;
+}
+
+/// The program supposes nothing of its files.
+#[derive(Clone, Copy, Debug)]
+pub struct SupposesNothing;
+
+impl Supposes<Unknown> for SupposesNothing {
+    fn suppose(&self) -> Unknown {
+        Unknown
     }
 }
 
-/// Closes the files of a desk. `NotClosed` if the log can't be copied into the file: what was
-/// committed is in the log then.
-pub fn close_files<D: Disk + Drop>(desk: Desk<FileStore<D>>) -> Result<(), ProgramFault> {
-    match desk.close().close() {
-        Ok(()) => Ok(()),
-        Err(_) => Err(ProgramFault::NotClosed),
+/// The file and its log, which are made if they are not there, and which no other program opens
+/// until they are let go. If another program has them open, they are tried again for that many
+/// seconds.
+pub(crate) fn locked<S: Start, B: Supposes<S>>(
+    rt: &HostRuntime,
+    db: &str,
+    wait: u32,
+    start: &B,
+) -> Result<Files<FileFrom<S>>, ProgramFault>
+    ensures { IfOk result (λ files. IsFresh true files.log × IsFresh false files.db) }
+{
+    for _ in 0..u64::from(wait) * TRIES {
+        match files_of(rt, db, start.suppose()) {
+            Err(ProgramFault::Busy) => {}
+            other => return other,
+        }
+        // If the system can't wait, the file is tried again at once.
+        let _ = thread::sleep(rt, Duration::from_millis(1000 / TRIES));
+    }
+    files_of(rt, db, start.suppose())
+}
+
+/// The file and its log. `File` for the names that sqlite keeps for databases of other kinds.
+fn files_of<S: Start>(
+    rt: &HostRuntime,
+    db: &str,
+    start: S,
+) -> Result<Files<FileFrom<S>>, ProgramFault>
+    ensures { IfOk result (λ files. IsFresh true files.log × IsFresh false files.db) }
+{
+    if db == ":memory:" || db.starts_with("file:") {
+        return Err(ProgramFault::File);
+    }
+    match sqlite_std_file::open(rt, db, start) {
+        Ok(files) => Ok(files),
+        Err(fault) => Err(fault.into()),
     }
 }

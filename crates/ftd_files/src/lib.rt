@@ -3,6 +3,7 @@
 #![tactic(auto)]
 
 mod clock;
+mod copies;
 mod faults;
 mod files;
 mod folder;
@@ -12,7 +13,7 @@ mod opening;
 
 pub use crate::clock::SystemClock;
 pub use crate::faults::ProgramFault;
-pub use crate::files::{close_files, desk_of, is_new};
+pub use crate::files::{Supposes, SupposesNothing, is_new};
 pub use crate::hints::{tell_fault, tell_made, unread_text};
 pub use crate::input::{import_input, named_file, standard_input, words};
-pub use crate::opening::{open_copy, open_database, open_with_short_log};
+pub use crate::opening::{DeskFiles, FileAt, close_desk, open_copy};

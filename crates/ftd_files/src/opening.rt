@@ -1,57 +1,27 @@
-//! The databases of files, and of copies of them.
+//! The desk over a database file and its log.
 
+ghost use Rattle.std.specs.Prelude.{IfOk};
+ghost use Rattle.sqlite.specs.Files.{file_state, image_of, over_files, Finds, IsOpened};
+ghost use Rattle.sqlite.specs.State.{HasCleanDisk};
+ghost use Rattle.sqlite_wal.specs.Files.{image_at};
+ghost use Rattle.sqlite_wal.specs.Recovery.{Image};
+ghost use Rattle.ftd_desk.specs.Desks.{IsStopped, held};
+ghost use Rattle.ftd_files.specs.Resting.{KeepsInFiles, StandsOver};
+
+use crate::copies::copied;
 use crate::faults::ProgramFault;
-use crate::files::log_of;
-use sqlite::{Connection, File, FileStore, Files, Options, Unknown};
+use crate::files::{Supposes, locked};
+use ftd_desk::Desk;
+use sqlite::{Connection, FileStore, Files, Options, Start};
 use sqlite_disk::{Disk, Memory};
+use sqlite_std_file::FileFrom;
 use std::alloc::Global;
 use std::hash::{BuildHasher, RandomState};
-use std::time::Duration;
-use std::{fs, thread};
-
-/// How often in a second a file is tried that another program has open.
-const TRIES: u64 = 20;
 
 /// After how many frames, of 4,120 bytes each, the log of a server is copied into its file.
 const LOG_FRAMES: usize = 254;
 
-/// The database of the file, which is made if it is not there. Each page of a file that is made
-/// carries a sum, so that a byte that changes on the disk is noticed. If another program has the
-/// file open, it is tried again for that many seconds.
-pub fn open_database(
-    rt: &HostRuntime,
-    db: &str,
-    wait: u32,
-) -> Result<Connection<FileStore<File>>, ProgramFault> {
-    let options = usual_options(rt)?;
-    connected(rt.alloc(), locked(rt, db, wait)?, options)
-}
-
-/// The same, and its log is copied into the file when it passes one megabyte.
-pub fn open_with_short_log(
-    rt: &HostRuntime,
-    db: &str,
-    wait: u32,
-) -> Result<Connection<FileStore<File>>, ProgramFault> {
-    let options = Options {
-        checkpoint_frames: LOG_FRAMES,
-        ..usual_options(rt)?
-    };
-    connected(rt.alloc(), locked(rt, db, wait)?, options)
-}
-
-/// The database of a copy of the file in memory: whatever is done with it, the file keeps its
-/// bytes. No log is left beside it that was not there. It waits as `opened` does.
-pub fn open_copy(
-    rt: &HostRuntime,
-    db: &str,
-    wait: u32,
-) -> Result<Connection<FileStore<Memory>>, ProgramFault> {
-    let options = usual_options(rt)?;
-    connected(rt.alloc(), copied(rt, db, wait)?, options)
-}
-
-/// The options of a database, with a random number for its log.
+/// The options of a desk's database, with a random number for its log.
 fn usual_options(rt: &HostRuntime) -> Result<Options, ProgramFault> {
     match RandomState::new(rt) {
         Ok(random) => Ok(Options::new(random.hash_one(&0u8))),
@@ -59,12 +29,29 @@ fn usual_options(rt: &HostRuntime) -> Result<Options, ProgramFault> {
     }
 }
 
-/// The database of these files, whose pages carry sums if they are new.
+/// The same, and if the log is to be short, it is copied into the file when it passes one megabyte.
+fn options_for(rt: &HostRuntime, has_short_log: bool) -> Result<Options, ProgramFault> {
+    let usual = usual_options(rt)?;
+    if has_short_log {
+        Ok(Options {
+            checkpoint_frames: LOG_FRAMES,
+            ..usual
+        })
+    } else {
+        Ok(usual)
+    }
+}
+
+/// The database of these files. Each page of a file that is new carries a sum, so that a byte that
+/// changes on the disk is noticed.
 fn connected<D: Disk + Drop>(
     alloc: Global,
     files: Files<D>,
     options: Options,
-) -> Result<Connection<FileStore<D>>, ProgramFault> {
+) -> Result<Connection<FileStore<D>>, ProgramFault>
+    ensures opened { IfOk result (λ conn. HasCleanDisk (file_state conn) → IsOpened conn) }
+    ensures found { IfOk result (λ conn. HasCleanDisk (file_state conn) → Finds files conn) }
+{
     if !files.may_be_used() {
         return Err(ProgramFault::File);
     }
@@ -74,74 +61,90 @@ fn connected<D: Disk + Drop>(
     }
 }
 
-/// The file and its log, which are made if they are not there, and which no other program opens
-/// until they are let go. If another program has them open, they are tried again for that many
-/// seconds.
-fn locked(rt: &HostRuntime, db: &str, wait: u32) -> Result<Files<File>, ProgramFault> {
-    for _ in 0..u64::from(wait) * TRIES {
-        match files_of(rt, db) {
-            Err(ProgramFault::Busy) => {}
-            other => return other,
+/// The desk over the database of these files, whose tables are made if they are not there. It
+/// stands for each state that the files hold. If they can't be used, they are closed.
+fn open_over<D: Disk + Drop>(
+    alloc: Global,
+    files: Files<D>,
+    options: Options,
+) -> Result<Desk<FileStore<D>>, ProgramFault>
+    ensures stands { IfOk result
+        (λ desk. StandsOver (image_of D.Disk files) (held over_files desk)) }
+    ensures goes { IfOk result (λ desk. ¬ IsStopped desk) }
+{
+    let conn = connected(alloc, files, options)?;
+    match Desk::open(alloc, conn) {
+        Ok(desk) => Ok(desk),
+        Err(refused) => {
+            let _ = refused.connection.close();
+            Err(refused.fault.into())
         }
-        // If the system can't wait, the file is tried again at once.
-        let _ = thread::sleep(rt, Duration::from_millis(1000 / TRIES));
     }
-    files_of(rt, db)
 }
 
-/// The file and its log. `File` for the names that sqlite keeps for databases of other kinds.
-fn files_of(rt: &HostRuntime, db: &str) -> Result<Files<File>, ProgramFault> {
-    if db == ":memory:" || db.starts_with("file:") {
-        return Err(ProgramFault::File);
+/// The files of a desk: a database file and its log.
+pub trait DeskFiles<D: Disk + Drop> {
+    /// The bytes that the two hold as they are opened.
+    ghost image: { Image };
+
+    /// Opens a desk over them. It stands for each state that their bytes hold, and answers. An
+    /// error says why they can't be used; they are closed then.
+    fn open_desk(&self) -> Result<Desk<FileStore<D>>, ProgramFault>
+        ensures stands { IfOk result (λ desk. StandsOver image (held over_files desk)) }
+        ensures goes { IfOk result (λ desk. ¬ IsStopped desk) };
+}
+
+/// The file of a name and its log, which are made if they are not there. No other program opens
+/// them until they are let go.
+#[derive(Clone, Copy)]
+pub struct FileAt<'a, B> {
+    pub rt: &'a HostRuntime,
+    /// The name of the file.
+    pub db: &'a str,
+    /// For how many seconds it is tried again, if another program has it open.
+    pub wait: u32,
+    /// The log is copied into the file when it passes one megabyte.
+    pub has_short_log: bool,
+    /// What is supposed of the two as they are opened.
+    pub start: B,
+}
+
+impl<'a, S: Start, B: Supposes<S>> DeskFiles<FileFrom<S>> for FileAt<'a, B> {
+    ghost image = { image_at S.Start };
+
+    fn open_desk(&self) -> Result<Desk<FileStore<FileFrom<S>>>, ProgramFault> {
+        let options = options_for(self.rt, self.has_short_log)?;
+        let files = locked(self.rt, self.db, self.wait, &self.start)?;
+        open_over(self.rt.alloc(), files, options)
     }
-    match sqlite_std_file::open(rt, db, Unknown) {
+}
+
+/// The desk over a copy in memory of the file and its log: whatever is done with it, the file keeps
+/// its bytes. If another program has the file open, it is tried again for that many seconds.
+pub fn open_copy(
+    rt: &HostRuntime,
+    db: &str,
+    wait: u32,
+) -> Result<Desk<FileStore<Memory>>, ProgramFault>
+    ensures { IfOk result (λ desk. ¬ IsStopped desk) }
+{
+    let options = usual_options(rt)?;
+    open_over(rt.alloc(), copied(rt, db, wait)?, options)
+}
+
+/// Closes the files of a desk, and gives them back: each state for which it stood rests in them.
+/// `NotClosed` if the log can't be copied into the file: what was committed is in the log then.
+pub fn close_desk<D: Disk + Drop>(desk: Desk<FileStore<D>>) -> Result<Files<D>, ProgramFault>
+    ensures { IfOk result (λ files. KeepsInFiles D.Disk (held over_files desk) files) }
+{
+    let conn = desk.close();
+    // Of any connection the engine says here that its trees list its schema.
+    let _schema = conn.schema();
+    match conn.close_files() {
         Ok(files) => Ok(files),
-        Err(fault) => Err(fault.into()),
-    }
-}
-
-/// Copies in memory of the file and its log. A log that was made for them is taken away.
-fn copied(rt: &HostRuntime, db: &str, wait: u32) -> Result<Files<Memory>, ProgramFault> {
-    let log = log_of(rt, db)?;
-    let had_log = fs::exists(rt, log.as_str()).unwrap_or(true);
-    let mut files = locked(rt, db, wait)?;
-    let copies = copies_of(rt.alloc(), &mut files)?;
-    // One that another program made since then may hold something.
-    if !had_log && copies.log.bytes().is_empty() {
-        let _ = fs::remove_file(rt, log.as_str());
-    }
-    Ok(copies)
-}
-
-/// Copies in memory of both files.
-fn copies_of<D: Disk>(alloc: Global, files: &mut Files<D>) -> Result<Files<Memory>, ProgramFault> {
-    Ok(Files {
-        log: copy_of(alloc, &mut files.log)?,
-        db: copy_of(alloc, &mut files.db)?,
-    })
-}
-
-/// A file in memory with the bytes of a file.
-fn copy_of<D: Disk>(alloc: Global, file: &mut D) -> Result<Memory, ProgramFault> {
-    let bytes = bytes_of(alloc, file)?;
-    let mut copy = Memory::new(alloc);
-    match copy.write_at(0, bytes.as_slice()) {
-        Ok(()) => Ok(copy),
-        Err(_) => Err(ProgramFault::Memory),
-    }
-}
-
-/// The bytes of a file. `File` where it can't be read.
-fn bytes_of<D: Disk>(alloc: Global, file: &mut D) -> Result<Vec<u8>, ProgramFault> {
-    if !file.may_be_used() {
-        return Err(ProgramFault::File);
-    }
-    let Ok(length) = file.len() else {
-        return Err(ProgramFault::File);
-    };
-    let mut bytes = vec![in alloc; 0u8; length]?;
-    match file.read_at(0, bytes.as_mut_slice()) {
-        Ok(()) => Ok(bytes),
-        Err(_) => Err(ProgramFault::File),
+        Err((_, store)) => {
+            drop(store.close());
+            Err(ProgramFault::NotClosed)
+        }
     }
 }

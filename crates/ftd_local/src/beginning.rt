@@ -1,8 +1,8 @@
 //! What becomes of a file that is not there.
 
 ghost use Rattle.std.specs.Prelude.{◌≡◌};
-ghost use Rattle.ftd.specs.Beginnings.{beginning_of, beginning_of_import};
-ghost use Rattle.ftd.specs.Beginnings.{beginning_of_question, beginning_of_request};
+ghost use Rattle.ftd_local.specs.Beginnings.{beginning_of, beginning_of_import};
+ghost use Rattle.ftd_local.specs.Beginnings.{beginning_of_question, beginning_of_request};
 
 use ftd_cli::Job;
 use ftd_csv::Sheet;
@@ -10,7 +10,7 @@ use ftd_machine::{Entry, Question, Request, ReturnPeriod};
 
 /// What a job does about a file that is not there.
 #[derive(Clone, Copy, Debug, PartialEq, Eq)]
-pub(crate) enum Beginning {
+pub enum Beginning {
     /// A desk begins by it: the file is made.
     Makes,
     /// The file is made, and that is told, since its name may be mistyped.
@@ -22,7 +22,7 @@ pub(crate) enum Beginning {
 /// What a job does about a file that is not there. A trial of an import makes none, nor do the
 /// years of all accounts, of which a new desk has none, nor what is due, nor does a journal, nor a
 /// check.
-pub(crate) fn of_job(job: &Job) -> Beginning
+pub fn beginning_of(job: &Job) -> Beginning
     ensures { result ≡ beginning_of job.now }
 {
     match job {

@@ -10,8 +10,8 @@ use Rattle.ftd_machine.specs.declared.requests.Entry.TheVariants as entry
 use Rattle.ftd_machine.specs.declared.entries.ReturnPeriod.TheVariants.{Quarter, Year}
 use Rattle.ftd_cli.specs.declared.tasks.Job.{Job}
 use Rattle.ftd_cli.specs.declared.tasks.Job.TheVariants as job
-use Rattle.ftd.specs.declared.beginning.Beginning.{Beginning}
-use Rattle.ftd.specs.declared.beginning.Beginning.TheVariants.{Makes, Tells, Needs}
+use Rattle.ftd_local.specs.declared.beginning.Beginning.{Beginning}
+use Rattle.ftd_local.specs.declared.beginning.Beginning.TheVariants.{Makes, Tells, Needs}
 
 -- an import: a desk may begin by accounts, and pay runs keep their answer over a new file
 abbrev pub beginning_of_import : Sheet → Bool → Beginning

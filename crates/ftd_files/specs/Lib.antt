@@ -1,0 +1,2 @@
+pub mod Resting
+pub use Rattle.ftd_desk.specs.Desks
