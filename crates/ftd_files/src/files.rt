@@ -7,8 +7,10 @@ use crate::faults::ProgramFault;
 use sqlite::{Files, Start, Unknown};
 use sqlite_std_file::FileFrom;
 use std::alloc::AllocError;
+use std::fs::{self, OpenOptions};
+use std::os::unix::fs::OpenOptionsExt;
+use std::thread;
 use std::time::Duration;
-use std::{fs, thread};
 
 /// How often in a second a file is tried that another program has open.
 const TRIES: u64 = 20;
@@ -74,6 +76,16 @@ pub(crate) fn locked<S: Start, B: Supposes<S>>(
     files_of(rt, db, start.suppose())
 }
 
+/// Makes the file, if it is not there: this user alone may read and write it. Why it can't be made
+/// is told as it is opened.
+fn make_private(rt: &HostRuntime, db: &str) {
+    let _ = OpenOptions::new()
+        .write(true)
+        .create_new(true)
+        .mode(0o600)
+        .open(rt, db);
+}
+
 /// The file and its log. `File` for the names that sqlite keeps for databases of other kinds.
 fn files_of<S: Start>(
     rt: &HostRuntime,
@@ -85,6 +97,7 @@ fn files_of<S: Start>(
     if db == ":memory:" || db.starts_with("file:") {
         return Err(ProgramFault::File);
     }
+    make_private(rt, db);
     match sqlite_std_file::open(rt, db, start) {
         Ok(files) => Ok(files),
         Err(fault) => Err(fault.into()),
