@@ -36,10 +36,10 @@ import time
 from unittest import mock
 
 from selenium import webdriver
+from selenium.common.exceptions import StaleElementReferenceException, WebDriverException
 from selenium.webdriver.chrome.service import Service
 from selenium.webdriver.common.action_chains import ActionChains
 from selenium.webdriver.common.keys import Keys
-from selenium.webdriver.support.expected_conditions import staleness_of
 from selenium.webdriver.support.ui import Select, WebDriverWait
 
 from browser import FOREIGN, SECONDS, Pages, Relay, serve, wait_for
@@ -60,6 +60,19 @@ def open_browser(folder):
         options.add_argument(f"--{word}")
     service = Service(shutil.which("chromedriver") or sys.exit("needs chromedriver"), env={**os.environ, "LANGUAGE": "en_US"})
     return webdriver.Chrome(service=service, options=options)
+
+
+def is_gone(element):
+    """Whether the page of the element is shown no more. Where it is left just then, the driver says so in other words."""
+    try:
+        element.is_enabled()
+        return False
+    except StaleElementReferenceException:
+        return True
+    except WebDriverException as fault:
+        if "does not belong to the document" in str(fault):
+            return True
+        raise
 
 
 class Desk:
@@ -120,7 +133,7 @@ class Desk:
         page = self.find("html")
         act()
         wait = WebDriverWait(self.browser, SECONDS)
-        wait.until(staleness_of(page))
+        wait.until(lambda _: is_gone(page))
         wait.until(lambda it: it.execute_script("return document.readyState") == "complete")
 
     def click(self, element):

@@ -180,8 +180,9 @@ def compare(program, folder, seed, count):
         for path in explained(server, rng, name):
             document, some = compare_explanation(server, path)
             pages, cells, links = pages + 1, cells + some, links | links_of(document)
-    # a name that no account has
-    links |= read_refusal(server, "/lists/accounts/nobody/years", *server.get("/lists/accounts/nobody/years/csv")[::2])
+    # the longest name of letters, which no random account has
+    path = f"/lists/accounts/{'z' * 20}/years"
+    links |= read_refusal(server, path, *server.get(f"{path}/csv")[::2])
     for link in sorted(links):
         status, _, page = server.get(link)
         assert status == 200, (seed, link, status)
