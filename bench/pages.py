@@ -6,14 +6,16 @@
 It needs Debian's python3-html5lib. DESKS desks (300 if none is given) are made of REQUESTS random requests (60 if none is given), and served. Each list,
 and why each obligation is so, is asked over HTTP as a page. Each page has to be read without a fault and to have a language, a title of its own, a caption
 for each table, and a scope for each header cell; the cells have to be the values of its JSON, one by one. What is refused has to be a page too, of a sentence with what the refusal names. Each link of a page
-has to lead to a page.
+has to lead to a page, and so has each of the page of an account.
 It ends with status 1 at the first difference.
 """
 
+import datetime
 import http.client
 import json
 import os
 import random
+import re
 import sys
 import tempfile
 
@@ -24,6 +26,7 @@ from journal import made_of
 from office import Office, program_of
 
 XHTML = "{http://www.w3.org/1999/xhtml}"
+TODAY = f"{datetime.date.today().year}Q{(datetime.date.today().month + 2) // 3}"
 QUARTERS = [f"{year}Q{quarter}" for year in range(2022, 2028) for quarter in range(1, 5)]
 
 
@@ -183,10 +186,18 @@ def compare(program, folder, seed, count):
     # the longest name of letters, which no random account has
     path = f"/lists/accounts/{'z' * 20}/years"
     links |= read_refusal(server, path, *server.get(f"{path}/csv")[::2])
+    more = set()
     for link in sorted(links):
         status, _, page = server.get(link)
         assert status == 200, (seed, link, status)
+        document, _ = read_page(page, link)
+        more |= links_of(document) if re.fullmatch("/accounts/[^/]+/html", link) else set()
+    # those of the page of an account; today's quarter may be refused, and is a page then too
+    for link in sorted(more - links):
+        status, _, page = server.get(link)
+        assert status == 200 or status == 409 and TODAY in link, (seed, link, status)
         read_page(page, link)
+    links |= more
     server.close()
     os.remove(file)
     return pages, cells, len(links)

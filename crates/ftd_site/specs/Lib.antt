@@ -4,5 +4,6 @@ pub mod Forms
 pub mod FormLists
 pub mod SentForms
 pub mod Accounts
+pub mod YearWays
 pub mod AccountPages
 pub mod Refusals

@@ -5,9 +5,10 @@ ghost use Rattle.std.specs.List.{flat_map, list_any};
 ghost use Rattle.ftd_ports.specs.Writing.{Writes};
 ghost use Rattle.ftd_pages.specs.Escapes.{shown};
 ghost use Rattle.ftd_site.specs.AccountPages.{account_page, answers_of, form_shown, is_wrong_form};
-ghost use Rattle.ftd_site.specs.AccountPages.{section_of_answer};
+ghost use Rattle.ftd_site.specs.AccountPages.{section_of, section_of_answer};
 
 use crate::accounts::write_account_ways;
+use crate::year_ways::write_ways_below;
 use ftd_answers::{RowFormat, Value, write_rows};
 use ftd_machine::{Answer, Facts, Refusal, Reply};
 use ftd_pages::{Frame, Place, Ways, write_end, write_facts_at, write_page_heading, write_start};
@@ -21,13 +22,25 @@ struct Sections {
     ways: Ways,
 }
 
+impl Sections {
+    /// Writes the section of what is told: what its own page shows, and below that links, if there
+    /// are some.
+    fn write_section<W: Target>(&self, facts: &Facts, target: &mut W) -> Result<(), WriteFault>
+        ensures { Writes result (W.taken target.old) (W.taken target.new)
+            (W.failed target.new) (section_of self.now.ways facts.now) }
+    {
+        write_facts_at(&Place::Section(self.ways), facts, target)?;
+        write_ways_below(self.ways, facts, target)
+    }
+}
+
 impl RowFormat<Answer> for Sections {
     ghost row_text = { λ sections answer. section_of_answer sections.ways answer };
 
     fn write_row<W: Target>(&self, row: &Answer, target: &mut W) -> Result<(), WriteFault> {
         match row {
             Ok(Reply::Told(Facts::Days(_))) => Ok(()),
-            Ok(Reply::Told(facts)) => write_facts_at(&Place::Section(self.ways), facts, target),
+            Ok(Reply::Told(facts)) => self.write_section(facts, target),
             Ok(Reply::Done | Reply::Already | Reply::Posted(_)) | Err(_) => Ok(()),
         }
     }

@@ -10,6 +10,7 @@ mod form_words;
 mod forms;
 mod refusals;
 mod sent_forms;
+mod year_ways;
 
 pub use crate::account_pages::write_account_page;
 pub use crate::controls::Filled;
