@@ -7,7 +7,8 @@ It needs Debian's python3-html5lib. Of each of DESKS random desks (40 if none is
 given), nonsense and corrections too, are sent to a server as forms, as a browser sends them, and to another over a new file as commands. Of one in ten a
 field gets a value that is none of its kind. The page has to tell what the command prints, with the status that its exit status has, and to be read by a
 parser of HTML without a fault; its title has to say whether it was done; where it was not done, its form has to be filled in as it was sent, and a field that
-has no value of its kind has to be named and marked, it alone. The form of each account is asked for too, and has to have the next number. At the end all
+has no value of its kind has to be named and marked, it alone; where it was done, it has to lead to what was changed, the page of the account or the
+holidays of the year. The form of each account is asked for too, and has to have the next number. At the end all
 rows of the tables have to be the same. It ends with status 1 at the first difference.
 """
 
@@ -134,6 +135,20 @@ def marked(document):
     return controls, ways
 
 
+def ways_to_changed(document):
+    """Where a page leads to what was changed: to the page of an account, or to the holidays of a year."""
+    ways = {it.get("href") for it in document.iter(f"{XHTML}a")}
+    return {way for way in ways if way.startswith(("/accounts/", "/lists/holidays/"))}
+
+
+def compare_ways(where, forms, document, fields):
+    """A page that tells that something was done leads to what was changed."""
+    year = fields.get("year") or fields.get("day", "")[:4]
+    way = f"/accounts/{fields['account']}/html" if "account" in fields else f"/lists/holidays/{year}/html"
+    assert ways_to_changed(document) == {way}, (where, fields, ways_to_changed(document))
+    assert forms.get(way)[0] == 200, (where, way)
+
+
 def compare(where, forms, commands, words, fields, bad=None):
     """Sends a form and its command, and compares what they tell. The name is that of the field that has no value of its kind, if it is known."""
     status, page = forms.post(f"/forms/{words[0]}", urllib.parse.urlencode(fields))
@@ -150,7 +165,9 @@ def compare(where, forms, commands, words, fields, bad=None):
         wanted = answer["out"] + answer["err"] if status == 200 else answer["err"]
         wanted = wanted.replace("line 1: ", "").replace(f"commands.db", "forms.db")
         assert printed(document) == wanted, f"{where}: {words}\n  the page: {printed(document)}\n  the command: {wanted}"
-    if status != 200:
+    if status == 200:
+        compare_ways(where, forms, document, fields)
+    else:
         # a text that is none of those to choose from can't be shown as chosen
         typed = {name: text for name, text in fields.items() if text and not (name == bad and name in ("form", "holiday"))}
         assert filled_in(document) == typed, (where, filled_in(document), typed)

@@ -1,11 +1,17 @@
 -- The page that answers a form that was sent.
 use Rattle.std.specs.Prelude.{ℕ, ◌==◌, List, [], ◌∷◌, ◌++◌, codes, length, if◌then◌else◌}
+use Rattle.std.specs.Prelude.{Option, Some, None, option_map}
+use Rattle.std.specs.Fmt.{decimal}
 use Rattle.std.specs.List.{concat}
+use Rattle.ftd_days.specs.Calendar.{year_of}
+use Rattle.ftd_days.specs.Spelling.{day_of, whole_number}
 use Rattle.ftd_verbs.specs.FieldRows.{key_of}
 use Rattle.ftd_verbs.specs.declared.rows.Verb.{Verb}
-use Rattle.ftd_verbs.specs.declared.field.Field.TheVariants.{Account}
+use Rattle.ftd_verbs.specs.declared.rows.Verb.TheVariants as verb
+use Rattle.ftd_verbs.specs.declared.field.Field.TheVariants.{Account, Day, Year}
 use Rattle.ftd_site.specs.Controls.{filled_in}
 use Rattle.ftd_pages.specs.Escapes.{escaped}
+use Rattle.ftd_pages.specs.Links.{address_in_page, link}
 use Rattle.ftd_site.specs.FormWords.{help_of, label_of, title_of}
 use Rattle.ftd_site.specs.FormLists.{form_way}
 use Rattle.ftd_site.specs.Forms.{form_of}
@@ -59,9 +65,36 @@ bad_name other = []
 unfoldable pub again_text : List ℕ → Verb → List ℕ
 again_text account verb = codes "<p>" ++ (form_way account verb ++ codes "</p>\n")
 
--- below what came of it the same form, as it was filled in, or where it was done the way to another
+-- the year whose holidays a form changes: the one that is filled in for a calendar, and that of the
+-- day that is filled in for a holiday
+abbrev pub year_changed : Verb → List Filled → Option ℕ
+year_changed verb.Calendar filled = whole_number (filled_in filled Year)
+year_changed verb.AddHoliday filled = option_map year_of (day_of (filled_in filled Day))
+year_changed verb.ChangeHoliday filled = option_map year_of (day_of (filled_in filled Day))
+year_changed _ filled = None
+
+-- the way to the list of the holidays of that year
+unfoldable pub holidays_way : ℕ → List ℕ
+holidays_way year =
+    link (address_in_page (codes "/lists/holidays/" ∷ decimal year ∷ codes "/html" ∷ []))
+    (decimal year)
+
+unfoldable pub holidays_text : ℕ → List ℕ
+holidays_text year =
+    codes "<p>Legal holidays of " ++ (holidays_way year ++ codes "</p>\n")
+
+abbrev pub changed_part : Option ℕ → List ℕ
+changed_part (Some year) = holidays_text year
+changed_part None = []
+
+-- below what was done the ways to the list that it changed and to another form
+abbrev pub done_part : Verb → List Filled → List ℕ
+done_part verb filled =
+    changed_part (year_changed verb filled) ++ again_text (filled_in filled Account) verb
+
+-- below what came of it the same form, as it was filled in, or where it was done those ways
 abbrev pub after_part : Verb → List Filled → Outcome → List ℕ
-after_part verb filled (outcome.Done answer below) = again_text (filled_in filled Account) verb
+after_part verb filled (outcome.Done answer below) = done_part verb filled
 after_part verb filled other = form_of verb (bad_name other) filled
 
 unfoldable pub sent_part : Verb → List Filled → Outcome → List ℕ

@@ -5,15 +5,21 @@ ghost use Rattle.ftd_ports.specs.Writing.{Writes};
 ghost use Rattle.ftd_verbs.specs.FieldRows.{key_of};
 ghost use Rattle.ftd_site.specs.FormWords.{help_of, label_of};
 ghost use Rattle.ftd_site.specs.SentForms.{account_after, after_part, again_text, bad_name};
-ghost use Rattle.ftd_site.specs.SentForms.{bad_text, came_of, outcome_part, pre_text};
-ghost use Rattle.ftd_site.specs.SentForms.{printed_part, sent_page, sent_part};
+ghost use Rattle.ftd_site.specs.SentForms.{bad_text, came_of, changed_part, done_part};
+ghost use Rattle.ftd_site.specs.SentForms.{holidays_text, holidays_way, outcome_part, pre_text};
+ghost use Rattle.ftd_site.specs.SentForms.{printed_part};
+ghost use Rattle.ftd_site.specs.SentForms.{sent_page, sent_part, year_changed};
 
 use crate::controls::{Filled, filled_in};
 use crate::form_lists::write_form_way;
 use crate::form_words::{help, label, title};
 use crate::forms::write_form_of;
 use ftd_answers::Value;
-use ftd_pages::{Frame, write_end, write_escaped_bytes, write_page_heading, write_start};
+use ftd_days::Day;
+use ftd_days::digits::whole_number;
+use ftd_pages::{
+    Frame, write_end, write_escaped_bytes, write_link, write_page_heading, write_start,
+};
 use ftd_ports::{Target, WriteFault, write_all, write_pieces};
 use ftd_verbs::{Field, Verb};
 
@@ -132,8 +138,77 @@ fn write_again<W: Target>(account: &str, verb: Verb, target: &mut W) -> Result<(
     write_all(target, b"</p>\n")
 }
 
+/// The year whose holidays a form of the verb changes, filled in so: that of a calendar, or that of
+/// a day. None where it changes no holidays, or where no year or day is filled in.
+fn year_changed(verb: Verb, filled: &[Filled<'_>]) -> Option<u32>
+    ensures { result ≡ year_changed verb filled.now }
+{
+    match verb {
+        Verb::Calendar => whole_number(filled_in(filled, Field::Year)),
+        Verb::AddHoliday | Verb::ChangeHoliday => {
+            Some(Day::read(filled_in(filled, Field::Day).as_bytes())?.year())
+        }
+        _ => None,
+    }
+}
+
+/// Writes the link to the list of the holidays of a year.
+#[tactic(auto, unfolding(crate::specs::SentForms::holidays_way))]
+fn write_holidays_way<W: Target>(year: u32, target: &mut W) -> Result<(), WriteFault>
+    ensures { Writes result (W.taken target.old) (W.taken target.new)
+        (W.failed target.new) (holidays_way year) }
+{
+    let address = [
+        Value::Text("/lists/holidays/"),
+        Value::Number(year),
+        Value::Text("/html"),
+    ];
+    write_link(&address, &Value::Number(year), target)
+}
+
+/// Writes the line with that link.
+#[tactic(auto, using(ftd_ports::proofs::WritingFacts::written_in_parts), unfolding(crate::specs::SentForms::holidays_text))]
+fn write_holidays<W: Target>(year: u32, target: &mut W) -> Result<(), WriteFault>
+    ensures { Writes result (W.taken target.old) (W.taken target.new)
+        (W.failed target.new) (holidays_text year) }
+{
+    write_all(target, b"<p>Legal holidays of ")?;
+    write_holidays_way(year, target)?;
+    write_all(target, b"</p>\n")
+}
+
+/// Writes the way to the list of holidays that a form of the verb changed, if it changed those of a
+/// year.
+fn write_changed<W: Target>(
+    verb: Verb,
+    filled: &[Filled<'_>],
+    target: &mut W,
+) -> Result<(), WriteFault>
+    ensures { Writes result (W.taken target.old) (W.taken target.new)
+        (W.failed target.new) (changed_part (year_changed verb filled.now)) }
+{
+    match year_changed(verb, filled) {
+        Some(year) => write_holidays(year, target),
+        None => Ok(()),
+    }
+}
+
+/// Writes what is below what was done: the ways to the list that it changed and to another form.
+#[tactic(auto, using(ftd_ports::proofs::WritingFacts::written_in_parts))]
+fn write_done<W: Target>(
+    verb: Verb,
+    filled: &[Filled<'_>],
+    target: &mut W,
+) -> Result<(), WriteFault>
+    ensures { Writes result (W.taken target.old) (W.taken target.new)
+        (W.failed target.new) (done_part verb filled.now) }
+{
+    write_changed(verb, filled, target)?;
+    write_again(filled_in(filled, Field::Account), verb, target)
+}
+
 /// Writes what is below what came of a form: the form as it was filled in, or where it was done the
-/// way to another.
+/// ways to what changed and to another form.
 fn write_after<W: Target>(
     verb: Verb,
     filled: &[Filled<'_>],
@@ -144,7 +219,7 @@ fn write_after<W: Target>(
         (W.failed target.new) (after_part verb filled.now outcome.now) }
 {
     match outcome {
-        Outcome::Done { .. } => write_again(filled_in(filled, Field::Account), verb, target),
+        Outcome::Done { .. } => write_done(verb, filled, target),
         Outcome::Bad(_) | Outcome::Refused(_) => {
             write_form_of(verb, bad_name(outcome), filled, target)
         }
