@@ -1,13 +1,13 @@
 //! Where a message comes from.
 
 ghost use Rattle.std.specs.Prelude.{◌≡◌, length, map, drop, take, false, true, codes, All};
-ghost use Rattle.std.specs.Prelude.{MatchOption};
+ghost use Rattle.std.specs.Prelude.{MatchOption, option_map};
 ghost use Rattle.std.specs.Char.{is_ascii_digit};
 ghost use Rattle.std.specs.List.{list_all};
 ghost use Rattle.httparse.specs.Spans.{header_bytes, IsHeaderWithin};
 ghost use Rattle.ftd_http.specs.Fields.{is_word, values_of};
-ghost use Rattle.ftd_http.specs.Origins.{is_word_then, is_port, is_local_host, is_local_origin};
-ghost use Rattle.ftd_http.specs.Origins.{is_own_site, origin_fault};
+ghost use Rattle.ftd_http.specs.Origins.{hosts_in, is_word_then, is_port, is_local_host};
+ghost use Rattle.ftd_http.specs.Origins.{is_own_origin, is_own_site, origin_fault};
 
 use crate::Status;
 use crate::fields::{find, is_word};
@@ -19,6 +19,7 @@ pub fn origin_fault(buf: &[u8], headers: &[HeaderSpan]) -> Option<Status>
     requires { All (IsHeaderWithin (length buf.now)) headers.now }
     ensures { result ≡ origin_fault (map (header_bytes buf.now) headers.now) }
 {
+    let mut own = None;
     if let Some((host, others)) = find(buf, headers, b"host") {
         if find(buf, others, b"host").is_some() {
             return Some(Status::BadRequest);
@@ -26,23 +27,24 @@ pub fn origin_fault(buf: &[u8], headers: &[HeaderSpan]) -> Option<Status>
         if !is_local_host(host) {
             return Some(Status::Forbidden);
         }
+        own = Some(host);
     }
-    if are_local_origins(buf, headers) && are_own_sites(buf, headers) {
+    if are_own_origins(buf, headers, own) && are_own_sites(buf, headers) {
         None
     } else {
         Some(Status::Forbidden)
     }
 }
 
-/// Whether each field Origin has an origin of this machine.
-fn are_local_origins(buf: &[u8], headers: &[HeaderSpan]) -> bool
+/// Whether each field Origin has the origin of the pages of this host.
+fn are_own_origins(buf: &[u8], headers: &[HeaderSpan], host: Option<&[u8]>) -> bool
     requires { All (IsHeaderWithin (length buf.now)) headers.now }
-    ensures { result ≡ list_all is_local_origin
+    ensures { result ≡ list_all (is_own_origin (hosts_in (option_map (λ it. it.now) host.entry)))
         (values_of (codes "origin") (map (header_bytes buf.now) headers.now)) }
 {
     let mut rest = headers;
     while let Some((origin, after)) = find(buf, rest, b"origin") {
-        if !is_local_origin(origin) {
+        if !is_own_origin(host, origin) {
             return false;
         }
         rest = after;
@@ -66,12 +68,16 @@ fn are_own_sites(buf: &[u8], headers: &[HeaderSpan]) -> bool
     true
 }
 
-/// Whether the text is an origin of this machine.
-fn is_local_origin(origin: &[u8]) -> bool
-    ensures { result ≡ is_local_origin origin.now }
+/// Whether the text is the origin of the pages of this host.
+fn is_own_origin(host: Option<&[u8]>, origin: &[u8]) -> bool
+    ensures { result
+        ≡ is_own_origin (hosts_in (option_map (λ it. it.now) host.entry)) origin.now }
 {
+    let Some(host) = host else {
+        return false;
+    };
     match after_word(b"http://", origin) {
-        Some(host) => is_local_host(host),
+        Some(named) => is_word(host, named),
         None => false,
     }
 }
