@@ -69,7 +69,7 @@ pub(crate) fn ask(rt: &HostRuntime, remote: &Remote<'_>) -> Result<u8, ProgramFa
     let Ok(port) = remote.port.parse::<u16>() else {
         let fault = CliFault::BadArgument {
             word: Word::Port,
-            value: escape_word(rt.alloc(), remote.port).ok(),
+            value: escape_word(rt.alloc(), remote.port)?,
         };
         return Ok(tell_fault(rt, &fault));
     };

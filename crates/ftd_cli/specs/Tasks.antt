@@ -1,6 +1,6 @@
 -- What the words of a command line ask.
 use Rattle.std.specs.Prelude.{◌≡◌, ◌⊎◌, ℕ, List, [], ◌∷◌, Option, Some, None, Result, Ok, Err, ⊤}
-use Rattle.std.specs.Prelude.{◌&&◌, Bool, true, false, IfSome, IsTrue}
+use Rattle.std.specs.Prelude.{◌&&◌, Bool, true, false, IsTrue}
 use Rattle.std.specs.List.{find}
 use Rattle.std.specs.Str.{bytes_eq}
 use Rattle.std.specs.String.{string_bytes}
@@ -142,10 +142,10 @@ rows_in (Some called) = called.1
 abbrev pub lacks_today : Word → List Row → Bool
 lacks_today word rows = may_be_today word && is_none (first_of (word_text word) rows)
 
--- a word whose value is none of its kind is told with that value, its control bytes escaped, where
--- there is memory for it; or it is left out, and today is not known
+-- a word whose value is none of its kind is told with that value, its control bytes escaped; or it
+-- is left out, and today is not known
 abbrev pub ShowsValue : List Row → CliFault → Type 0
 ShowsValue rows (fault.BadArgument word shown) =
-    IfSome shown (λ text. string_bytes text ≡ escaped_word (bad_value word rows))
+    string_bytes shown ≡ escaped_word (bad_value word rows)
 ShowsValue rows (fault.NoToday word) = lacks_today word rows ≡ true
 ShowsValue rows _ = ⊤

@@ -163,14 +163,14 @@ fn lacks_today(matches: &ArgMatches<'_>, word: Word) -> bool
     }
 }
 
-/// The word, and its first value that is none of its kind.
+/// The word, and its first value that is none of its kind, if there is memory for it.
 fn bad_argument(alloc: Global, matches: &ArgMatches<'_>, word: Word) -> CliFault
     ensures told { Fails result (Err (value (BadWord word))) }
     ensures value { ShowsValue (rows_in (subcommand_rows_of matches.now)) result }
 {
-    CliFault::BadArgument {
-        word,
-        value: escape_word(alloc, value_in(matches, word)).ok(),
+    match escape_word(alloc, value_in(matches, word)) {
+        Ok(value) => CliFault::BadArgument { word, value },
+        Err(_) => CliFault::Memory,
     }
 }
 
@@ -185,9 +185,9 @@ fn usage(alloc: Global, text: &str) -> CliFault
 }
 
 /// What the words ask on this day, of which the first is the program's name. `BadArgument` names
-/// the first word whose value is none of its kind, and has that value where there is memory for it;
-/// `NoToday` names the first that is left out and today, where the day is not known; `Usage` and
-/// `Help` have the text that is printed.
+/// the first word whose value is none of its kind, and has that value; `NoToday` names the first
+/// that is left out and today, where the day is not known; `Usage` and `Help` have the text that is
+/// printed.
 pub fn decide(alloc: Global, today: Option<Day>, words: &[String]) -> Result<Task, CliFault>
     ensures asked { Gives result (task_of today (map string_bytes words.now)) }
     ensures value { IfErr result

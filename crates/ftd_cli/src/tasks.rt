@@ -128,8 +128,7 @@ pub enum Task {
 #[derive(Drop)]
 pub enum CliFault {
     /// The first word whose value is none of its kind, and that value, its control bytes escaped.
-    /// None where there was no memory for it.
-    BadArgument { word: Word, value: Option<String> },
+    BadArgument { word: Word, value: String },
     /// The first word without a value, where that is today, which is not known.
     NoToday(Word),
     /// They are no command line: this text tells why.

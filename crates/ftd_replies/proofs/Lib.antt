@@ -7,7 +7,7 @@ mod LineRequests
 mod LineTasks
 mod LineValues
 mod LineVerbs
-mod ReadBack
+pub mod ReadBack
 mod RequestLines
 mod Rests
-mod Walked
+pub mod Walked

@@ -1,6 +1,5 @@
 -- What the program prints where words ask nothing.
-use Rattle.std.specs.Prelude.{◌≡◌, ◌⊎◌, ◌++◌, ℕ, Bool, true, List, [], ◌∷◌, Option, None}
-use Rattle.std.specs.Prelude.{Some, codes, option_map}
+use Rattle.std.specs.Prelude.{◌≡◌, ◌⊎◌, ◌++◌, ℕ, Bool, true, List, [], ◌∷◌, Option, codes}
 use Rattle.std.specs.Io.KnownBytes.{Appends}
 use Rattle.std.specs.List.{concat}
 use Rattle.std.specs.String.{string_bytes}
@@ -63,11 +62,10 @@ asked_text word.Port = codes "a port from 0 to 65535"
 asked_text word.Wait = codes "a number of seconds from 0 to 3600"
 asked_text other = allowed
 
--- the value that was given; it is told in words where it is empty, and where it is not known
-abbrev pub given_text : Option (List ℕ) → List ℕ
-given_text None = codes "what was given"
-given_text (Some []) = codes "an empty word"
-given_text (Some (byte ∷ bytes)) = byte ∷ bytes
+-- the value that was given; it is told in words where it is empty
+abbrev pub given_text : List ℕ → List ℕ
+given_text [] = codes "an empty word"
+given_text (byte ∷ bytes) = byte ∷ bytes
 
 -- `bad argument YEAR`, and below it `hint: 2099 is not a year from 2001 to 2098`
 abbrev pub bad_text : (name given asked : List ℕ) → List ℕ
@@ -76,7 +74,7 @@ bad_text name given asked =
     (codes "bad argument " ∷ name ∷ codes "\nhint: " ∷ given ∷ codes " is not " ∷ asked
     ∷ (10 ∷ []) ∷ [])
 
-abbrev pub bad_word : Word → Option (List ℕ) → List ℕ
+abbrev pub bad_word : Word → List ℕ → List ℕ
 bad_word word value = bad_text (word_text word) (given_text value) (asked_text word)
 
 -- today is not known, and this word is to be given
@@ -113,7 +111,7 @@ module _ {O E : Type 0} (o_taken : O → Option (List ℕ)) (o_failed : O → Bo
   -- by why the words ask nothing
   abbrev pub Tells : CliFault → ℕ → Type 0
   Tells (fault.BadArgument word value) =
-      TellsFault (bad_word word (option_map string_bytes value)) 2
+      TellsFault (bad_word word (string_bytes value)) 2
   Tells (fault.NoToday word) = TellsFault (no_today (word_text word)) 3
   Tells (fault.Usage text) = TellsFault (string_bytes text) 2
   Tells (fault.Help text) = TellsHelp (string_bytes text)

@@ -1,6 +1,6 @@
 //! Why the words of a command line ask nothing.
 
-ghost use Rattle.std.specs.Prelude.{◌≡◌, option_map};
+ghost use Rattle.std.specs.Prelude.{◌≡◌};
 ghost use Rattle.ftd_replies.specs.Putting.{IsPut};
 ghost use Rattle.ftd_replies.specs.Telling.{Tells, TellsHelp, asked_text, bad_text, bad_word};
 ghost use Rattle.ftd_replies.specs.Telling.{formats_text, given_text, kind_text, no_today};
@@ -18,7 +18,7 @@ pub fn tell<O: Target, E: Target>(fault: &CliFault, out: &mut O, err: &mut E) ->
 {
     match fault {
         CliFault::BadArgument { word, value } => {
-            tell_word(*word, value.as_deref(), err);
+            tell_word(*word, value.as_str(), err);
             2
         }
         CliFault::NoToday(word) => {
@@ -96,21 +96,20 @@ fn asked_bytes(word: Word) -> &'static [u8]
     }
 }
 
-/// The value of a word; it is told in words where it is empty, and where it is not known.
-fn given_bytes(value: Option<&str>) -> &[u8]
-    ensures { result.now ≡ given_text (option_map (λ text. text.now) value.entry) }
+/// The value of a word; it is told in words where it is empty.
+fn given_bytes(value: &str) -> &[u8]
+    ensures { result.now ≡ given_text value.now }
 {
     match value {
-        None => b"what was given",
-        Some("") => b"an empty word",
-        Some(text) => text.as_bytes(),
+        "" => b"an empty word",
+        text => text.as_bytes(),
     }
 }
 
 /// Prints the name of a word whose value is none of its kind, and what is asked for in its place.
-fn tell_word<E: Target>(word: Word, value: Option<&str>, err: &mut E)
+fn tell_word<E: Target>(word: Word, value: &str, err: &mut E)
     ensures { IsPut (E.taken err.old) (E.taken err.new) (E.failed err.new)
-        (bad_word word (option_map (λ text. text.now) value.entry)) }
+        (bad_word word value.now) }
 {
     let given = given_bytes(value);
     tell_bad(word.text().as_bytes(), given, asked_bytes(word), err);
