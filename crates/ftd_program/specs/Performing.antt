@@ -1,5 +1,5 @@
 -- What the program prints of an answer, and its exit status.
-use Rattle.std.specs.Prelude.{◌≡◌, ◌==◌, ◌⊎◌, ℕ, Bool, true, false, List, Option, Result}
+use Rattle.std.specs.Prelude.{◌≡◌, ◌≢◌, ◌==◌, ◌⊎◌, ℕ, Bool, true, false, List, Option, Result}
 use Rattle.std.specs.Prelude.{Some, None, MatchBool, MatchResult, Ok, Err, [], codes}
 use Rattle.std.specs.Io.KnownBytes.{Appends}
 use Rattle.ftd_ports.specs.Writing.{WritesPrefix}
@@ -66,6 +66,17 @@ abbrev pub is_text : AnswerFormat → Bool
 is_text (Plain format) = is_list_text (list_format format)
 is_text Page = false
 
+-- what is told where there is no memory for the other hints
+abbrev pub no_hints : List ℕ
+no_hints = codes "hint: there is no memory for the other hints\n"
+
+-- the hints were written whole, or their target failed after a prefix of them; or, where there was
+-- no memory for all of them, a line below a prefix of them says so
+pub data PutsHints (before after : Option (List ℕ)) (failed : Bool) (hints : List ℕ) : Type 0 where
+  whole : IsPut before after failed hints → PutsHints before after failed hints
+  part : (between : Option (List ℕ)) → WritesPrefix before between hints
+      → IsPut between after failed no_hints → PutsHints before after failed hints
+
 module _ {O E : Type 0} (o_taken : O → Option (List ℕ)) (o_failed : O → Bool)
     (e_taken : E → Option (List ℕ)) (e_failed : E → Bool)
     (out : O) (err : E) (p : JobEnd O E) where
@@ -102,9 +113,9 @@ module _ {O E : Type 0} (o_taken : O → Option (List ℕ)) (o_failed : O → Bo
   abbrev pub PrintsReply : List ℕ → List ℕ → Type 0
   PrintsReply text said = PrintsReplied text said ⊎ FailsOutput text
 
-  -- the summary of an import on standard output, and on standard error, as far as there is memory
-  -- for them, a note for each account to which it added obligations, notes of its refused records,
-  -- and the hints of its malformed ones
+  -- the summary of an import on standard output, and on standard error a note for each account to
+  -- which it added obligations and notes of its refused records, as far as there is memory for
+  -- them, and the hints of its malformed ones
   pub record PrintsCounts (old new : Held) (kind : Sheet) (input : List ℕ) (summary : Summary)
       : Type 0 where
     pub status_is : p.status ≡ summary_status summary
@@ -115,7 +126,7 @@ module _ {O E : Type 0} (o_taken : O → Option (List ℕ)) (o_failed : O → Bo
     pub no_note : summary.changes.entries.items ≡ [] → noted ≡ err
     pub told : E
     pub refusals : PutsRefusals e_taken noted told old new summary.refusals.entries.items
-    pub hints : WritesPrefix (e_taken told) (e_taken p.err)
+    pub hints : summary.malformed ≢ 0 → PutsHints (e_taken told) (e_taken p.err) (e_failed p.err)
         (record_hints kind summary.malformed input)
     pub no_hint : summary.malformed ≡ 0 → p.err ≡ told
 

@@ -6,11 +6,10 @@ ghost use Rattle.ftd_program.specs.Doing.{Does};
 ghost use Rattle.ftd_program.specs.Performing.{Asks, AsksDue, Performs, PerformsDue};
 ghost use Rattle.ftd_program.specs.Performing.{PrintsAnswer, is_text};
 ghost use Rattle.ftd_program.specs.Performing.{PerformsImport, PerformsTrial, PrintsRefusal};
-ghost use Rattle.ftd_program.specs.Performing.{PrintsReply, PrintsStop, PrintsSummary};
+ghost use Rattle.ftd_program.specs.Performing.{PrintsReply, PrintsStop, PrintsSummary, PutsHints};
 ghost use Rattle.ftd_machine.specs.Laws.{IsBounded};
 ghost use Rattle.ftd_machine.specs.declared.requests.Question.TheVariants.{DueList};
 ghost use Rattle.ftd_machine.specs.declared.requests.Request.TheVariants as requests;
-ghost use Rattle.ftd_ports.specs.Writing.{WritesPrefix};
 ghost use Rattle.ftd_csv.specs.Hints.{record_hints};
 ghost use Rattle.ftd_replies.specs.Below.{below_text};
 ghost use Rattle.ftd_replies.specs.Putting.{IsPut};
@@ -29,7 +28,7 @@ use crate::settle::settle;
 use crate::summaries::{write_bad_header, write_summary};
 use ftd_answers::{DueText, ListFormat, UnwrittenText};
 use ftd_cli::Job;
-use ftd_csv::{Sheet, write_record_hints};
+use ftd_csv::{HintFault, Sheet, write_record_hints};
 use ftd_days::{Day, Quarter};
 use ftd_desk::{Desk, DueFault};
 use ftd_imports::{ImportStop, Progress, StopCause, Summary, import, import_trial};
@@ -337,13 +336,20 @@ fn print_summary<S: Alter, O: Target, E: Target>(
     }
 }
 
-/// Prints the hints of the malformed records of a text, so many of them at most. Some may be left
-/// out where there is no memory.
+/// What is told below hints where there is no memory for the others.
+const NO_HINTS: &[u8] = b"hint: there is no memory for the other hints\n";
+
+/// Puts the hints of the malformed records of a text, so many of them at most. Where there is no
+/// memory for all of them, a line below those that were put says so.
 fn put_hints<E: Target>(alloc: Global, sheet: Sheet, input: &[u8], most: usize, err: &mut E)
-    ensures { WritesPrefix (E.taken err.old) (E.taken err.new)
+    ensures { PutsHints (E.taken err.old) (E.taken err.new) (E.failed err.new)
         (record_hints sheet most input.now) }
 {
-    let _ = write_record_hints(alloc, sheet, input, most, err);
+    match write_record_hints(alloc, sheet, input, most, err) {
+        Err(HintFault::Memory) => put(NO_HINTS, err),
+        // Where standard error fails, the status still tells.
+        Ok(()) | Err(HintFault::Write) => {}
+    }
 }
 
 /// Prints the summary of an import that stopped, and why it did.

@@ -1,7 +1,6 @@
 use Rattle.std.proofs.Common.{arith, inl, inr, rules}
 use Rattle.ftd_desk.proofs.Tried.{as_it_was}
 use Rattle.ftd_desk.specs.Desks.{held}
-use Rattle.ftd_program.proofs.Puts.{nothing_put}
 use Rattle.ftd_program.proofs.performing.print_summary.Goals as goal
 use Rattle.ftd_program.proofs.performing.print_summary.Goals.{then-summary-gt0, else-summary-gt0}
 
@@ -15,7 +14,7 @@ returns-after-summary-gt0 g c = elim c.if-summary-gt0.branch [
     no_note = c.put_added.ensures.none;
     told = c.put_refusals.new.err;
     refusals = c.put_refusals.ensures;
-    hints = rw w.err-is w.put_hints.ensures;
+    hints = λ some. rw w.err-is w.put_hints.ensures;
     no_hint = λ none. absurd (let some = w.if-summary-gt0.true in omega (arith, none, some));
   }
   | else-summary-gt0 w ↦ inl record {
@@ -26,7 +25,7 @@ returns-after-summary-gt0 g c = elim c.if-summary-gt0.branch [
     no_note = c.put_added.ensures.none;
     told = c.put_refusals.new.err;
     refusals = c.put_refusals.ensures;
-    hints = rw w.err-is (nothing_put (g.E.Target.taken c.put_refusals.new.err) _);
+    hints = λ some. absurd (some (let none = w.if-summary-gt0.false in omega (arith, none)));
     no_hint = λ none. w.err-is;
   }
 ]
