@@ -19,7 +19,7 @@ use Rattle.ftd_verbs.specs.Formats.{as_text}
 use Rattle.ftd_replies.specs.RequestLines.{lines_of}
 use Rattle.ftd_server.specs.Refusals.{refused}
 use Rattle.ftd_server.specs.Replying.{Responds}
-use Rattle.ftd_server.specs.Responses.{Said, formatted}
+use Rattle.ftd_connections.specs.Responses.{Said, formatted}
 use Rattle.ftd_server.specs.Tables.{handles}
 use Rattle.ftd.specs.Journals as journals
 use Rattle.ftd.specs.Journals.{TellsOwn, TellsWhole, told_or_refused, years_asked}

@@ -19,7 +19,7 @@ use Rattle.ftd_verbs.specs.declared.rows.Verb.{Verb}
 use Rattle.ftd_http.specs.declared.ask.Inquiry.TheVariants as asked
 use Rattle.ftd_http.specs.declared.status.Status.TheVariants as status
 use Rattle.ftd_server.specs.Replying.{Responds, account_in, answered}
-use Rattle.ftd_server.specs.Responses.{Said, bare, json}
+use Rattle.ftd_connections.specs.Responses.{Said, bare, json}
 use Rattle.ftd_server.specs.Tables.{handles}
 use Rattle.ftd.specs.Commands.{RespondsOver}
 use Rattle.ftd.specs.Written.{written_response, written_text}

@@ -15,8 +15,9 @@ use Rattle.ftd_forms.specs.Shown.{ShowsForm, forms_said}
 use Rattle.ftd_http.specs.declared.ask.Inquiry.{Inquiry}
 use Rattle.ftd_http.specs.declared.ask.Inquiry.TheVariants as asked
 use Rattle.ftd_server.specs.Accounts.{TellsAccount}
-use Rattle.ftd_server.specs.Replying.{home, Responds as RespondsByRequests}
-use Rattle.ftd_server.specs.Responses.{Said}
+use Rattle.ftd_connections.specs.Home.{home}
+use Rattle.ftd_server.specs.Replying.{Responds as RespondsByRequests}
+use Rattle.ftd_connections.specs.Responses.{Said}
 use Rattle.ftd_server.specs.Tables.{handles}
 use Rattle.ftd_server.specs.Turns.{asks}
 use Rattle.ftd.specs.Journals.{TellsJournal}

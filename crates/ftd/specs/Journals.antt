@@ -18,7 +18,7 @@ use Rattle.ftd_http.specs.declared.ask.Inquiry.{Inquiry}
 use Rattle.ftd_http.specs.declared.ask.Inquiry.TheVariants as asked
 use Rattle.ftd_server.specs.Refusals.{refused}
 use Rattle.ftd_server.specs.Replying.{Responds}
-use Rattle.ftd_server.specs.Responses.{Said, formatted}
+use Rattle.ftd_connections.specs.Responses.{Said, formatted}
 use Rattle.ftd_server.specs.Tables.{handles}
 
 -- the response with these lines as plain text, or to the refusal that came in place of them

@@ -4,7 +4,7 @@ use Rattle.std.specs.Str.{is_utf8}
 use Rattle.serde_json.specs.Data.{Data, member, no_members, number, object, string, unsigned}
 use Rattle.serde_json.specs.Written.{compact_text}
 use Rattle.ftd_http.specs.declared.status.Status.TheVariants as status
-use Rattle.ftd_server.specs.Responses.{Said, bare, json}
+use Rattle.ftd_connections.specs.Responses.{Said, bare, json}
 
 -- what stands on standard output and standard error, and the exit status, as JSON
 abbrev pub written_data : List ℕ → List ℕ → ℕ → Data

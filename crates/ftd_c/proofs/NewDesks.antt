@@ -10,8 +10,8 @@ use Rattle.ftd_machine.specs.State.{nothing}
 use Rattle.ftd_desk.specs.Desks.{Held, Keeps}
 use Rattle.ftd_desk.specs.Opened.{Opens}
 use Rattle.ftd_http.specs.Messages.{Message}
-use Rattle.ftd_server.specs.Serving.{ServesMessages}
-use Rattle.ftd_server.specs.declared.connection.ServedConnection.{ServedConnection}
+use Rattle.ftd_connections.specs.Serving.{ServesMessages}
+use Rattle.ftd_connections.specs.declared.connection.ServedConnection.{ServedConnection}
 use Rattle.ftd_server.specs.Tables.{AnsweredBy}
 use Rattle.ftd_c.specs.Office.{AreAnswers, IsAnswered}
 

@@ -4,8 +4,8 @@ use Rattle.ftd_machine.specs.State.{State, nothing}
 use Rattle.ftd_machine.specs.Runs.{Goes}
 use Rattle.ftd_http.specs.Messages.{Message}
 use Rattle.ftd_server.specs.Replying.{ByRequests}
-use Rattle.ftd_server.specs.Serving.{Answered, ServesMessages}
-use Rattle.ftd_server.specs.declared.connection.ServedConnection.{ServedConnection}
+use Rattle.ftd_connections.specs.Serving.{Answered, ServesMessages}
+use Rattle.ftd_connections.specs.declared.connection.ServedConnection.{ServedConnection}
 
 -- what is answered where memory was refused: more than any answers have
 abbrev pub no_answers : ℕ

@@ -5,8 +5,8 @@ use Rattle.ftd_http.specs.Controls.{Typed}
 use Rattle.ftd_http.specs.declared.status.Status.TheVariants.{BadRequest}
 use Rattle.ftd_site.specs.declared.sent_forms.Outcome.{Outcome}
 use Rattle.ftd_site.specs.declared.sent_forms.Outcome.TheVariants.{Bad}
-use Rattle.ftd_server.specs.Responses.{Said, said_of}
-use Rattle.ftd_server.specs.declared.response.Response.{Response}
+use Rattle.ftd_connections.specs.Responses.{Said, said_of}
+use Rattle.ftd_connections.specs.declared.response.Response.{Response}
 use Rattle.ftd_verbs.specs.declared.field.Field.{Field}
 use Rattle.ftd_verbs.specs.declared.rows.Verb.{Verb}
 use Rattle.ftd_forms.specs.Sent.{HasCome, IsSentPage, TellsBad, TellsEnd, Written, status_for}

@@ -6,8 +6,8 @@ use Rattle.ftd_desk.specs.Desks.{held}
 use Rattle.ftd_desk.specs.declared.desk.Desk.{Desk}
 use Rattle.ftd_http.specs.declared.ask.Payable.{Payable}
 use Rattle.ftd_site.specs.Forms.{has_form}
-use Rattle.ftd_server.specs.Responses.{Said, said_of}
-use Rattle.ftd_server.specs.declared.response.Response.{Response}
+use Rattle.ftd_connections.specs.Responses.{Said, said_of}
+use Rattle.ftd_connections.specs.declared.response.Response.{Response}
 use Rattle.ftd_verbs.specs.declared.rows.Verb.{Verb}
 use Rattle.ftd_forms.specs.Given.{FindsNext, given}
 use Rattle.ftd_forms.specs.Shown.{IsFormPage, ShowsForm, known_for, made_or_failed, shown}

@@ -23,7 +23,7 @@ use Rattle.ftd_site.specs.declared.sent_forms.Outcome.TheVariants as outcome
 use Rattle.ftd_program.specs.Doing as doing
 use Rattle.ftd_program.specs.declared.performing.JobEnd.{JobEnd}
 use Rattle.ftd_server.specs.Replying.{server_frame}
-use Rattle.ftd_server.specs.Responses.{Said, bare, page}
+use Rattle.ftd_connections.specs.Responses.{Said, bare, page}
 use Rattle.ftd_verbs.specs.Formats.{as_text}
 use Rattle.ftd_verbs.specs.Rows.{is_correction}
 use Rattle.ftd_verbs.specs.declared.field.Field.{Field}

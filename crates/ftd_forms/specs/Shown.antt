@@ -11,8 +11,8 @@ use Rattle.ftd_site.specs.Forms.{form_page, has_form}
 use Rattle.ftd_site.specs.declared.controls.Filled.{Filled}
 use Rattle.ftd_verbs.specs.declared.rows.Verb.{Verb}
 use Rattle.ftd_server.specs.Replying.{server_frame}
-use Rattle.ftd_server.specs.Responses.{Said, bare, page, said_of}
-use Rattle.ftd_server.specs.declared.response.Response.{Response}
+use Rattle.ftd_connections.specs.Responses.{Said, bare, page, said_of}
+use Rattle.ftd_connections.specs.declared.response.Response.{Response}
 use Rattle.ftd_http.specs.declared.ask.Payable.{Payable}
 use Rattle.ftd_forms.specs.Given.{FindsNext, Known, given}
 

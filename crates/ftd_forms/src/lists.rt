@@ -2,12 +2,13 @@
 
 ghost use Rattle.std.specs.Prelude.{◌≡◌, IfOk};
 ghost use Rattle.ftd_forms.specs.Shown.{forms_said};
-ghost use Rattle.ftd_server.specs.Responses.{said_of};
+ghost use Rattle.ftd_connections.specs.Responses.{said_of};
 
+use ftd_connections::{Response, page_response};
 use ftd_days::Day;
 use ftd_http::Status;
 use ftd_ports::Port;
-use ftd_server::{Response, page_response, server_frame};
+use ftd_server::server_frame;
 use ftd_site::write_form_list;
 use std::alloc::{AllocError, Global};
 

@@ -3,14 +3,15 @@
 ghost use Rattle.std.specs.Prelude.{◌≡◌, ◌==◌, IfOk, map};
 ghost use Rattle.ftd_http.specs.Controls.{seen};
 ghost use Rattle.ftd_site.specs.Controls.{pair_of};
-ghost use Rattle.ftd_server.specs.Responses.{said_of};
+ghost use Rattle.ftd_connections.specs.Responses.{said_of};
 ghost use Rattle.ftd_forms.specs.Sent.{HasCome, IsSentPage, status_for, texts_of};
 
 use crate::asking::SentForm;
+use ftd_connections::{Response, page_response};
 use ftd_days::Day;
 use ftd_http::{Control, Status};
 use ftd_ports::Port;
-use ftd_server::{Response, page_response, server_frame};
+use ftd_server::server_frame;
 use ftd_site::{Filled, Outcome, write_sent_form};
 use std::alloc::{AllocError, Global};
 

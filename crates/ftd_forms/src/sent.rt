@@ -2,18 +2,18 @@
 
 ghost use Rattle.std.specs.Prelude.{map};
 ghost use Rattle.ftd_http.specs.Controls.{seen};
-ghost use Rattle.ftd_server.specs.Responses.{said_of};
+ghost use Rattle.ftd_connections.specs.Responses.{said_of};
 ghost use Rattle.ftd_forms.specs.Sent.{AnswersSent, AsksSent, TellsBad, TellsControls, TellsEnd};
 ghost use Rattle.ftd_forms.specs.Sent.{TellsSent};
 
 use crate::asking::{SentForm, Written, do_job, job_of};
 use crate::outcomes::{outcome_of, sent_page, status_for};
 use crate::shown::or_failed;
+use ftd_connections::{Response, bare_response};
 use ftd_days::Day;
 use ftd_desk::Desk;
 use ftd_http::{Status, are_of_form, read_controls, read_form};
 use ftd_machine::Request;
-use ftd_server::{Response, bare_response};
 use ftd_site::{Outcome, has_form};
 use ftd_verbs::{Field, FieldFault, Verb};
 use sqlite::Alter;

@@ -9,15 +9,16 @@ ghost use Rattle.ftd_site.specs.Controls.{pair_of};
 ghost use Rattle.ftd_site.specs.Forms.{form_page, has_form};
 ghost use Rattle.ftd_verbs.specs.FieldRows.{key_of};
 ghost use Rattle.ftd_server.specs.Replying.{server_frame};
-ghost use Rattle.ftd_server.specs.Responses.{page, said_of};
+ghost use Rattle.ftd_connections.specs.Responses.{page, said_of};
 
 use crate::given::{Known, next_number, texts_of};
+use ftd_connections::{Response, bare_response, page_response};
 use ftd_days::Day;
 use ftd_desk::Desk;
 use ftd_http::{Payable, Status};
 use ftd_machine::AccountName;
 use ftd_ports::Port;
-use ftd_server::{Response, bare_response, page_response, server_frame};
+use ftd_server::server_frame;
 use ftd_site::{Filled, has_form, write_form};
 use ftd_verbs::{Field, Verb};
 use sqlite::Alter;

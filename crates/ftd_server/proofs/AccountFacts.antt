@@ -7,7 +7,7 @@ use Rattle.ftd_desk.specs.Desks.{IsStopped, held}
 use Rattle.ftd_desk.specs.Words.{HandlesAll}
 use Rattle.ftd_desk.specs.declared.desk.Desk.{Desk}
 use Rattle.ftd_server.specs.Accounts.{TellsAccount, asked, page_questions, said_to, unasked}
-use Rattle.ftd_server.specs.Responses.{Said}
+use Rattle.ftd_connections.specs.Responses.{Said}
 
 pub tells : {S A E : Type 0} (g : store.Ghosts S) (today : Option ℕ) (old new : Desk S)
     (account : List ℕ) (given : Result (Vec Answer A) E)

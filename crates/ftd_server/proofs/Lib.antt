@@ -1,5 +1,2 @@
-pub mod EndFacts
-pub mod ServeFacts
-pub mod ListeningFacts
 pub mod TableFacts
 mod AccountFacts

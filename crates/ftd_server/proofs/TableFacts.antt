@@ -11,15 +11,15 @@ use Rattle.ftd_desk.specs.declared.desk.Desk.{Desk}
 use Rattle.ftd_http.specs.Messages.{Message}
 use Rattle.ftd_http.specs.declared.ask.Inquiry.{Inquiry}
 use Rattle.ftd_http.specs.declared.ask.Inquiry.TheVariants as asked
-use Rattle.ftd_server.specs.Responses.{Said}
+use Rattle.ftd_connections.specs.Responses.{Said}
 use Rattle.ftd_server.specs.Replying.{ByRequests, Responds}
-use Rattle.ftd_server.specs.Serving.{IsAnswer, Answers, none, more, Answered, Broken}
-use Rattle.ftd_server.specs.Serving.{BreaksOff, unasked, in_answer, in_refusal, inquiry_of}
-use Rattle.ftd_server.specs.Serving.{ServesMessages, Breaks}
+use Rattle.ftd_connections.specs.Serving.{IsAnswer, Answers, none, more, Answered, Broken}
+use Rattle.ftd_connections.specs.Serving.{BreaksOff, unasked, in_answer, in_refusal, inquiry_of}
+use Rattle.ftd_connections.specs.Serving.{ServesMessages, Breaks}
 use Rattle.ftd_server.specs.Tables.{Follows, AnsweredBy, BrokenBy, handles}
-use Rattle.ftd_server.specs.declared.connection.Cause.{Cause}
-use Rattle.ftd_server.specs.declared.connection.ServedConnection.{ServedConnection}
-use Rattle.ftd_server.specs.declared.connection.ServeFault.{ServeFault}
+use Rattle.ftd_connections.specs.declared.connection.Cause.{Cause}
+use Rattle.ftd_connections.specs.declared.connection.ServedConnection.{ServedConnection}
+use Rattle.ftd_connections.specs.declared.connection.ServeFault.{ServeFault}
 
 -- a desk that stays as it was
 same_desk : (old new : Held) (so : State → State → Type 0) → new ≡ old → ((s : State) → so s s)

@@ -17,7 +17,7 @@ use Rattle.ftd_http.specs.declared.status.Status.TheVariants as status
 use Rattle.ftd_site.specs.AccountPages.{account_page}
 use Rattle.ftd_verbs.specs.declared.formats.AnswerFormat.TheVariants.{Page}
 use Rattle.ftd_server.specs.Replying.{refused_as, server_frame}
-use Rattle.ftd_server.specs.Responses.{Said, bare, formatted}
+use Rattle.ftd_connections.specs.Responses.{Said, bare, formatted}
 
 -- ---- what the page asks of the desk
 

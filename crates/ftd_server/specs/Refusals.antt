@@ -9,7 +9,7 @@ use Rattle.ftd_machine.specs.Refusals.{is_failure, name_text, subject_of, number
 use Rattle.ftd_machine.specs.declared.replies.Subject.{Subject}
 use Rattle.ftd_machine.specs.declared.replies.Subject.TheVariants as subject
 use Rattle.ftd_machine.specs.declared.replies.Refusal.{Refusal}
-use Rattle.ftd_server.specs.Responses.{Said, json}
+use Rattle.ftd_connections.specs.Responses.{Said, json}
 
 -- the year or the quarter that a refusal names, or how many corrections there are
 abbrev pub subject_fields : Subject → List Told

@@ -20,10 +20,9 @@ use Rattle.ftd_pages.specs.declared.frames.Ways.TheVariants.{From, Nowhere}
 use Rattle.ftd_site.specs.Refusals.{refused_page}
 use Rattle.ftd_verbs.specs.declared.formats.AnswerFormat.{AnswerFormat}
 use Rattle.ftd_verbs.specs.declared.formats.AnswerFormat.TheVariants.{Plain, Page}
-use Rattle.ftd_server.specs.Ahead.{shown_until}
-use Rattle.ftd_server.specs.declared.home.TheConstants.{NO_CLOCK}
-use Rattle.ftd_server.specs.Responses.{Said, bare, formatted, json}
-use Rattle.ftd_server.specs.Responses.{other_method, page, see_owed, style_sheet, text}
+use Rattle.ftd_connections.specs.Ahead.{shown_until}
+use Rattle.ftd_connections.specs.Responses.{Said, bare, formatted, json}
+use Rattle.ftd_connections.specs.Responses.{other_method, page, style_sheet}
 use Rattle.ftd_server.specs.Refusals.{refusal_status, refused}
 use Rattle.ftd_http.specs.declared.ask.Inquiry.{Inquiry}
 use Rattle.ftd_http.specs.declared.ask.Inquiry.TheVariants as asked
@@ -51,12 +50,6 @@ ways_on (Some today) = From today (shown_until today)
 -- the frame of the server's pages: their style sheet is a route
 abbrev pub server_frame : Option ℕ → Frame
 server_frame today = record { style = Linked; ways = ways_on today }
-
--- the response to who asks for the first page: it leads to what is owed as of today; or today is
--- not known, and the response says so
-abbrev pub home : Option ℕ → Said
-home None = text status.InternalServerError NO_CLOCK.now
-home (Some today) = see_owed (record { as_of = today; until = shown_until today })
 
 -- the response to a reply on the day of today, in a format where it has several
 abbrev pub replied : Option ℕ → AnswerFormat → Reply → Said

@@ -11,8 +11,8 @@ use Rattle.ftd_desk.specs.Words.{Handles}
 use Rattle.ftd_desk.specs.declared.desk.Desk.{Desk}
 use Rattle.ftd_http.specs.Messages.{Message}
 use Rattle.ftd_server.specs.Replying.{ByRequests}
-use Rattle.ftd_server.specs.Serving.{Answered, Broken}
-use Rattle.ftd_server.specs.declared.connection.Cause.{Cause}
+use Rattle.ftd_connections.specs.Serving.{Answered, Broken}
+use Rattle.ftd_connections.specs.declared.connection.Cause.{Cause}
 
 -- a desk answers a request
 abbrev pub handles : {S : Type 0} → store.Ghosts S → Desk S → Request → Answer → Desk S → Type 0

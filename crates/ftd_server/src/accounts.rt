@@ -7,11 +7,11 @@ ghost use Rattle.ftd_desk.specs.Words.{HandlesAll};
 ghost use Rattle.ftd_server.specs.Accounts.{TellsAccount, account_said, day_questions, is_told};
 ghost use Rattle.ftd_server.specs.Accounts.{due_of, nothing_told, page_of_account, page_questions};
 ghost use Rattle.ftd_server.specs.Accounts.{said_to, schedule_b_of, schedule_of, years_of};
-ghost use Rattle.ftd_server.specs.Responses.{Said, said_of};
+ghost use Rattle.ftd_connections.specs.Responses.{Said, said_of};
 
 use crate::facts::server_frame;
 use crate::refused::refused_as;
-use crate::response::{Response, bare_response, report_response};
+use ftd_connections::{Response, bare_response, report_response};
 use ftd_days::{Day, Quarter};
 use ftd_desk::Desk;
 use ftd_http::Status;

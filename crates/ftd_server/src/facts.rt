@@ -4,10 +4,9 @@ ghost use Rattle.std.specs.Prelude.{◌≡◌, IfOk};
 ghost use Rattle.ftd_machine.specs.Questions.{AreBounded};
 ghost use Rattle.ftd_pages.specs.Formats.{facts_as};
 ghost use Rattle.ftd_server.specs.Replying.{server_frame, ways_on};
-ghost use Rattle.ftd_server.specs.Responses.{formatted, said_of};
+ghost use Rattle.ftd_connections.specs.Responses.{formatted, said_of};
 
-use crate::ahead::shown_until;
-use crate::response::{Response, report_response};
+use ftd_connections::{Response, report_response, shown_until};
 use ftd_days::Day;
 use ftd_machine::Facts;
 use ftd_pages::{Frame, Style, Ways, write_facts_as};

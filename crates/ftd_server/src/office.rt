@@ -2,12 +2,12 @@
 
 ghost use Rattle.std.specs.Prelude.{◌≡◌, IfOk, IfErr};
 ghost use Rattle.ftd_desk.specs.Desks.{held};
-ghost use Rattle.ftd_server.specs.Serving.{ServesMessages, Breaks};
+ghost use Rattle.ftd_connections.specs.Serving.{ServesMessages, Breaks};
 ghost use Rattle.ftd_server.specs.Tables.{AnsweredBy, BrokenBy};
 ghost use Rattle.ftd_server.specs.Turns.{asks, is_lost};
 
 use crate::respond::desk_response;
-use crate::{Machine, Response, ServeFault, ServedConnection, serve_machine};
+use ftd_connections::{Machine, Response, ServeFault, ServedConnection, serve_machine};
 use ftd_days::Day;
 use ftd_desk::Desk;
 use ftd_http::{Inquiry, Peer};

@@ -3,11 +3,11 @@
 ghost use Rattle.std.specs.Prelude.{◌≡◌, ◌∷◌, IfOk, codes};
 ghost use Rattle.ftd_answers.specs.Fields.{members_of, number_field, object_of, text_field};
 ghost use Rattle.ftd_days.specs.Text.{quarter_text};
-ghost use Rattle.ftd_server.specs.Responses.{said_of};
+ghost use Rattle.ftd_connections.specs.Responses.{said_of};
 ghost use Rattle.ftd_server.specs.Refusals.{name_fields, refused, refusal_fields, refusal_status};
 
-use crate::response::{Response, json_response, object_text};
 use ftd_answers::Value;
+use ftd_connections::{Response, json_response, object_text};
 use ftd_days::Quarter;
 use ftd_http::Status;
 use ftd_machine::{Refusal, Subject};

@@ -4,11 +4,11 @@ ghost use Rattle.std.specs.Prelude.{◌≡◌, IfOk};
 ghost use Rattle.ftd_site.specs.Refusals.{refused_page};
 ghost use Rattle.ftd_server.specs.Refusals.{refusal_status};
 ghost use Rattle.ftd_server.specs.Replying.{refused_as, server_frame};
-ghost use Rattle.ftd_server.specs.Responses.{page, said_of};
+ghost use Rattle.ftd_connections.specs.Responses.{page, said_of};
 
 use crate::facts::server_frame;
 use crate::refusals::{refusal_response, refusal_status};
-use crate::response::{Response, page_response};
+use ftd_connections::{Response, page_response};
 use ftd_days::Day;
 use ftd_machine::Refusal;
 use ftd_ports::Port;

@@ -3,15 +3,15 @@
 ghost use Rattle.std.specs.Prelude.{◌≡◌, IfOk, OnErr};
 ghost use Rattle.ftd_server.specs.Replying.{Responds, account_in, answered, named, posted};
 ghost use Rattle.ftd_server.specs.Replying.{replied};
-ghost use Rattle.ftd_server.specs.Responses.{Said, said_of};
+ghost use Rattle.ftd_connections.specs.Responses.{Said, said_of};
 ghost use Rattle.ftd_server.specs.Tables.{handles};
 
 use crate::facts::facts_said;
 use crate::refused::refused_as;
-use crate::response::{
+use ftd_answers::Value;
+use ftd_connections::{
     Response, bare_response, json_response, object_text, other_method, style_response,
 };
-use ftd_answers::Value;
 use ftd_days::Day;
 use ftd_desk::Desk;
 use ftd_http::{Inquiry, Status};

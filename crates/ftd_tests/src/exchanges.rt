@@ -2,7 +2,7 @@
 
 use crate::desks::new_desk;
 use crate::peers::{cut, exchange, whole};
-use ftd_server::{End, ServedConnection};
+use ftd_connections::{End, ServedConnection};
 use std::alloc::Global;
 use std::process::Abort;
 use std::test::Fail;

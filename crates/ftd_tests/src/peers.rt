@@ -1,8 +1,9 @@
 //! Peers that send and take their bytes in pieces, or fail.
 
+use ftd_connections::{ServeFault, ServedConnection};
 use ftd_desk::Desk;
 use ftd_ports::Port;
-use ftd_server::{ServeFault, ServedConnection, serve};
+use ftd_server::serve;
 use sqlite::MemStore;
 use std::alloc::Global;
 use std::io::{Error, ErrorKind, Read};

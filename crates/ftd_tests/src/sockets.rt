@@ -3,8 +3,8 @@
 use crate::desks::new_desk;
 use crate::exchanges::{INPUT, OUTPUT};
 use crate::taker::Taker;
+use ftd_connections::{Limits, Stop, announce, serve_on};
 use ftd_ports::Port;
-use ftd_server::{Limits, Stop, announce, serve_on};
 use ftd_waiting::WaitingRoom;
 use std::alloc::Global;
 use std::io::{Read, Write};

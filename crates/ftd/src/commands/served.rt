@@ -3,22 +3,21 @@
 ghost use Rattle.std.specs.Prelude.{◌≡◌, IfOk, OnErr, None, if◌then◌else◌};
 ghost use Rattle.std.specs.String.{string_bytes};
 ghost use Rattle.ftd_http.specs.Asking.{is_for_page};
-ghost use Rattle.ftd_server.specs.Responses.{Said, said_of};
+ghost use Rattle.ftd_connections.specs.Responses.{Said, said_of};
 ghost use Rattle.ftd.specs.Commands.{AnswersBody, RespondsToBody, file_of};
 
 use crate::commands::body::BodyLines;
 use crate::commands::written::written_response;
 use crate::journal::journal_response;
 use ftd_cli::DayClock;
+use ftd_connections::{Machine, Response, home_response};
 use ftd_days::Day;
 use ftd_desk::Desk;
 use ftd_forms::{Named, Setting, form_list_response, form_response, sent_response};
 use ftd_http::Inquiry;
 use ftd_ports::Port;
 use ftd_program::JobEnd;
-use ftd_server::{
-    Machine, Response, account_response, desk_response, home_response, still_answers,
-};
+use ftd_server::{account_response, desk_response, still_answers};
 use ftd_shell::{Inputs, Shell, Shows};
 use sqlite::Alter;
 use std::alloc::{AllocError, Global};

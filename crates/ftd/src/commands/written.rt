@@ -4,10 +4,10 @@ ghost use Rattle.std.specs.Prelude.{◌≡◌, IfOk};
 ghost use Rattle.std.specs.String.{string_bytes};
 ghost use Rattle.serde_json.specs.View.{view};
 ghost use Rattle.ftd.specs.Written.{written_data, written_response, written_text};
-ghost use Rattle.ftd_server.specs.Responses.{said_of};
+ghost use Rattle.ftd_connections.specs.Responses.{said_of};
 
+use ftd_connections::{Response, bare_response, json_response};
 use ftd_http::Status;
-use ftd_server::{Response, bare_response, json_response};
 use serde_json::{Value, json};
 use std::alloc::{AllocError, Global};
 

@@ -1,6 +1,6 @@
 use Rattle.std.proofs.Common.{None, Some, refl}
 use Rattle.ftd_server.specs.Refusals.{refused}
-use Rattle.ftd_server.specs.Responses.{said_of}
+use Rattle.ftd_connections.specs.Responses.{said_of}
 use Rattle.ftd.specs.Journals.{told_or_refused, unknown, unread}
 use Rattle.ftd.proofs.JournalFacts.{own_known, own_lost, own_told}
 use Rattle.ftd.proofs.Responses.{at_err, if_ok, on_err}

@@ -1,5 +1,5 @@
 use Rattle.std.proofs.Common.{refl}
-use Rattle.ftd_server.specs.Responses.{said_of}
+use Rattle.ftd_connections.specs.Responses.{said_of}
 use Rattle.ftd.specs.Journals.{told_or_refused}
 use Rattle.ftd.proofs.JournalFacts.{whole_told}
 use Rattle.ftd.proofs.Responses.{at_err, if_ok}

@@ -1,7 +1,7 @@
 use Rattle.std.proofs.Common.{refl}
 use Rattle.std.specs.Prelude.{Result, Ok, Err, IfOk, OnErr}
 use Rattle.ftd_server.specs.Replying.{account_in, answered}
-use Rattle.ftd_server.specs.Responses.{style_sheet}
+use Rattle.ftd_connections.specs.Responses.{style_sheet}
 use Rattle.ftd_server.proofs.respond.desk_response.Goals as goal
 
 -- what holds in any case holds at an error

@@ -1,0 +1,3 @@
+pub mod EndFacts
+pub mod ServeFacts
+pub mod ListeningFacts

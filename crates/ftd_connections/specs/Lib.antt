@@ -1,0 +1,12 @@
+pub mod Responses
+pub mod Ahead
+pub mod Home
+pub mod Serving
+pub mod Wires
+pub mod Listening
+pub mod Served
+pub use Rattle.ftd_answers.specs.Fields
+pub use Rattle.ftd_http.specs.Looks
+pub use Rattle.ftd_http.specs.Messages
+pub use Rattle.ftd_http.specs.Routes
+pub use Rattle.ftd_ports.specs.Writing

@@ -1,5 +1,0 @@
-use Rattle.ftd_server.proofs.EndFacts.{cut_one, refusal_one}
-use Rattle.ftd_server.proofs.laws.one_cut_of_a_connection.Goals as goal
-
-pub returns : goal.returns
-returns c = record { messages = cut_one; refusal = refusal_one }

@@ -1,5 +1,0 @@
-use Rattle.ftd_server.proofs.lines.tell_failed.Goals as goal
-
-pub returns : goal.returns
-returns g c = rw (c.as_bytes-number.ensures.value, c.format.ensures.text) at
-    c.tell_more.ensures

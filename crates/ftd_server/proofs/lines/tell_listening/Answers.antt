@@ -1,4 +1,0 @@
-use Rattle.ftd_server.proofs.lines.tell_listening.Goals as goal
-
-pub returns : goal.returns
-returns g c = rw (c.as_bytes-port.ensures.value, c.format.ensures.text) at c.write_pieces.ensures
