@@ -38,7 +38,7 @@ from_nothing : (old new : Held) → HasCleanDisk new.db → Keeps old nothing
     → (messages : List Message) (text : List ℕ) → AnsweredBy old new messages text
     → IsAnswered messages text
 from_nothing old new clean keeps messages text by =
-    let (end, answers, later) = by.follows clean nothing keeps in (end, answers)
+    let (end, answers, later) = by.follows.follows clean nothing keeps in (end, answers)
 
 pub are_answers : (old new : Held) (bytes unread text : List ℕ)
     (left taken taken' : Option (List ℕ)) (served : ServedConnection) → HasCleanDisk new.db

@@ -1,2 +1,3 @@
+pub mod HandledFacts
 pub mod TableFacts
 mod AccountFacts

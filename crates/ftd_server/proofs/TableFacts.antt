@@ -17,6 +17,7 @@ use Rattle.ftd_connections.specs.Serving.{IsAnswer, Answers, none, more, Answere
 use Rattle.ftd_connections.specs.Serving.{BreaksOff, unasked, in_answer, in_refusal, inquiry_of}
 use Rattle.ftd_connections.specs.Serving.{ServesMessages, Breaks}
 use Rattle.ftd_server.specs.Tables.{Follows, AnsweredBy, BrokenBy, handles}
+use Rattle.ftd_server.proofs.HandledFacts.{all_handled, broken_handled}
 use Rattle.ftd_connections.specs.declared.connection.Cause.{Cause}
 use Rattle.ftd_connections.specs.declared.connection.ServedConnection.{ServedConnection}
 use Rattle.ftd_connections.specs.declared.connection.ServeFault.{ServeFault}
@@ -126,7 +127,7 @@ module _ {S : Type 0} (g : store.Ghosts S) where
 
   all_answers : (start later : Desk S) (messages : List Message) (text : List ℕ)
       → Answers goes start messages text later
-      → AnsweredBy (held g start) (held g later) messages text
+      → Follows (held g start) (held g later) (λ s end. Answered Alone s end messages text)
   all_answers start _ _ _ none = same_desk _ _ _ refl (λ s. none)
   all_answers start _ _ _ (more before said now message answer later first last) =
       both _ (held g now) _ (λ s m. Answers Alone s before said m)
@@ -152,7 +153,8 @@ module _ {S : Type 0} (g : store.Ghosts S) where
 
   all_broken : (start later : Desk S) (messages : List Message) (text rest part : List ℕ)
       (cause : Cause) → Broken goes start later messages text rest part cause
-      → BrokenBy (held g start) (held g later) messages text rest part cause
+      → Follows (held g start) (held g later)
+      (λ s end. Broken Alone s end messages text rest part cause)
   all_broken start later messages text rest part cause (now, answers, breaks) =
       both _ (held g now) _ (λ s m. Answers Alone s messages text m)
       (λ m end. BreaksOff Alone (length messages) rest m end part cause) _
@@ -175,7 +177,10 @@ module _ {S : Type 0} (g : store.Ghosts S) where
       are = h.are;
       ends = h.ends;
       at_end = h.at_end;
-      answers = all_answers start later h.messages h.text h.answers;
+      answers = record {
+        follows = all_answers start later h.messages h.text h.answers;
+        handled = all_handled g start later h.messages h.text h.answers;
+      };
       written = h.written;
       count = h.count;
     }
@@ -196,7 +201,11 @@ module _ {S : Type 0} (g : store.Ghosts S) where
       gives = h.gives;
       are = h.are;
       stay = h.stay;
-      answers = all_broken start later h.messages h.text h.rest h.part fault.cause h.answers;
+      answers = record {
+        follows = all_broken start later h.messages h.text h.rest h.part fault.cause h.answers;
+        handled = broken_handled g start later h.messages h.text h.rest h.part fault.cause
+            h.answers;
+      };
       failed = h.failed;
       written = h.written;
       count = h.count;
