@@ -16,7 +16,8 @@ use Rattle.ftd_replies.specs.Notes.{asked_when_done}
 use Rattle.ftd_shell.specs.Listed.{Asked, in_list, requests_of}
 use Rattle.ftd_shell.specs.Scripts.{AnswersLines, AnswersScript, EndsUnread}
 use Rattle.ftd_shell.specs.Scripts.{Turn, alone, full, last, lines_of, most_lines, unread, whole}
-use Rattle.ftd_shell.specs.Shells.{AnswersNext, Ways, is_last}
+use Rattle.ftd_shell.specs.Shells.{AnswersNext, Ways}
+use Rattle.ftd_script.specs.Statuses.{is_last}
 use Rattle.ftd_shell.specs.ListedLines.{AnswersAlone, AnswersListed, AnswersMore, AnswersTaken}
 use Rattle.ftd_shell.specs.ListedLines.{EndsListed, answered, ended as ended_by, waited, went_on}
 use Rattle.ftd_shell.specs.Understanding.{AreListed, Holds, Takes, Understands, listed_line}

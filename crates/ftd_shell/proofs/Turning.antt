@@ -21,7 +21,8 @@ use Rattle.ftd_shell.specs.Listed.{Asked, Entered, HasItsNote, TellsEach, TellsN
 use Rattle.ftd_shell.specs.Listed.{answers_of, asked_of, broken_of, requests_of}
 use Rattle.ftd_shell.specs.Scripts.{AnswersLines, AnswersTogether, Turn, alone, broken, dropped}
 use Rattle.ftd_shell.specs.Scripts.{lines_of, together}
-use Rattle.ftd_shell.specs.Shells.{AnswersNext, Ways, is_last}
+use Rattle.ftd_shell.specs.Shells.{AnswersNext, Ways}
+use Rattle.ftd_script.specs.Statuses.{is_last}
 use Rattle.ftd_shell.specs.ListedLines.{AnswersListed, AnswersMore}
 use Rattle.ftd_shell.specs.Understanding.{AreListed, Holds, pieces_in}
 use Rattle.ftd_shell.specs.declared.listed.Listed.{Listed}

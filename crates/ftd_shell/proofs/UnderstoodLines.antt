@@ -21,11 +21,13 @@ use Rattle.ftd_replies.specs.LineRequests.{AlwaysAsk}
 use Rattle.ftd_replies.specs.Telling.{Tells}
 use Rattle.ftd_shell.specs.Listed.{Asked, IsAsked}
 use Rattle.ftd_shell.specs.Shells.{AnswersCommand, AnswersPiece, AnswersWords}
-use Rattle.ftd_shell.specs.Shells.{DoesAsked, DoesIfAny, HasNoMemory, TellsBad, Ways, job_of}
+use Rattle.ftd_shell.specs.Shells.{DoesAsked, DoesIfAny, HasNoMemory, TellsBad, Ways}
+use Rattle.ftd_script.specs.Jobs.{job_of}
 use Rattle.ftd_shell.specs.Shells.{no_text, too_long}
 use Rattle.ftd_shell.specs.Shells as shells
 use Rattle.ftd_shell.specs.Understanding.{AsksJob, Understands, UnderstandsWords, UnderstoodAs}
-use Rattle.ftd_shell.specs.Understanding.{job_asked, words_of}
+use Rattle.ftd_shell.specs.Understanding.{words_of}
+use Rattle.ftd_script.specs.Jobs.{job_asked}
 use Rattle.ftd_program.specs.declared.performing.JobEnd.{JobEnd}
 use Rattle.ftd_shell.specs.declared.understood.Entry.{Entry}
 use Rattle.ftd_shell.specs.declared.understood.Understood.{Understood}

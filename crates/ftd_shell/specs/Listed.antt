@@ -21,7 +21,10 @@ use Rattle.ftd_replies.specs.Notes.{asked_when_done}
 use Rattle.ftd_replies.specs.Putting.{IsPut}
 use Rattle.ftd_replies.specs.declared.hints.HintFacts.TheVariants.{Nothing}
 use Rattle.ftd_program.specs.Performing.{FailsOutput, Prints, PutsNote, asked_then}
-use Rattle.ftd_shell.specs.Shells.{Ways, echo_text, greater, job_of, said_by, said_in, said_text}
+use Rattle.ftd_shell.specs.Shells.{Ways, said_by, said_in}
+use Rattle.ftd_script.specs.Jobs.{job_of}
+use Rattle.ftd_script.specs.Shown.{echo_text, said_text}
+use Rattle.ftd_script.specs.Statuses.{greater}
 use Rattle.ftd_program.specs.declared.performing.JobEnd.{JobEnd}
 
 -- ---- what is asked

@@ -11,7 +11,8 @@ use Rattle.ftd_cli.specs.declared.lines.Piece.{Piece}
 use Rattle.ftd_replies.specs.Notes.{asked_when_done}
 use Rattle.ftd_shell.specs.Listed.{Asked, Entered}
 use Rattle.ftd_shell.specs.Scripts.{AnswersLines, EndsUnread, Turn, lines_of}
-use Rattle.ftd_shell.specs.Shells.{AnswersNext, Ways, is_last}
+use Rattle.ftd_shell.specs.Shells.{AnswersNext, Ways}
+use Rattle.ftd_script.specs.Statuses.{is_last}
 use Rattle.ftd_shell.specs.Understanding.{Holds, Understands, pieces_in}
 use Rattle.ftd_shell.specs.declared.listed.Listed.{Listed}
 use Rattle.ftd_program.specs.declared.performing.JobEnd.{JobEnd}

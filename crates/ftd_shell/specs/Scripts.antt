@@ -12,7 +12,8 @@ use Rattle.ftd_cli.specs.Lines.{IsNext}
 use Rattle.ftd_cli.specs.declared.lines.Piece.{Piece}
 use Rattle.ftd_shell.specs.Listed.{AskEach, Asked, Entered, HasItsNote, TellsEach, TellsNext}
 use Rattle.ftd_shell.specs.Listed.{answers_of, asked_of, broken_of, requests_of}
-use Rattle.ftd_shell.specs.Shells.{AnswersNext, TellsLine, Ways, greater, is_last}
+use Rattle.ftd_shell.specs.Shells.{AnswersNext, TellsLine, Ways}
+use Rattle.ftd_script.specs.Statuses.{greater, is_last}
 use Rattle.ftd_program.specs.declared.performing.JobEnd.{JobEnd}
 
 -- ---- turns

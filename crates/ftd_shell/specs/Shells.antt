@@ -1,8 +1,6 @@
 -- What a shell answers: the lines of a script, each as its command.
-use Rattle.std.specs.Prelude.{◌≡◌, ◌==◌, ◌&&◌, ◌||◌, ℕ, Bool, false, true, nat_lt}
-use Rattle.std.specs.Prelude.{List, [], ◌∷◌, ◌++◌, MatchResult, Option, None, Some}
-use Rattle.std.specs.Prelude.{Err, Ok, Result, codes, if◌then◌else◌, not}
-use Rattle.std.specs.Fmt.{decimal}
+use Rattle.std.specs.Prelude.{◌≡◌, ℕ, Bool, false, true, List, [], MatchResult, Option, None}
+use Rattle.std.specs.Prelude.{Some, Err, Ok, Result, codes}
 use Rattle.std.specs.Global.{Vec}
 use Rattle.std.specs.Io.KnownBytes.{Appends}
 use Rattle.std.specs.String.{string_bytes}
@@ -17,34 +15,17 @@ use Rattle.ftd_cli.specs.declared.lines.Piece.{Piece}
 use Rattle.ftd_cli.specs.declared.lines.Piece.TheVariants as piece
 use Rattle.ftd_cli.specs.declared.tasks.CliFault.{CliFault}
 use Rattle.ftd_cli.specs.declared.tasks.Job.{Job}
-use Rattle.ftd_cli.specs.declared.tasks.Job.TheVariants as job
 use Rattle.ftd_cli.specs.declared.tasks.Task.{Task}
-use Rattle.ftd_cli.specs.declared.tasks.Task.TheVariants as task
 use Rattle.ftd_replies.specs.Putting.{IsPut}
 use Rattle.ftd_replies.specs.Telling.{Tells}
 use Rattle.ftd_program.specs.Doing.{Does}
 use Rattle.ftd_program.specs.Performing.{FailsOutput}
 use Rattle.ftd_program.specs.declared.performing.JobEnd.{JobEnd}
+use Rattle.ftd_script.specs.Jobs.{job_of, reads_file}
+use Rattle.ftd_script.specs.Shown.{echo_text, said_text}
+use Rattle.ftd_script.specs.Statuses.{greater}
+use Rattle.ftd_script.specs.declared.shown.Shows.{Shows}
 use Rattle.ftd_shell.specs.declared.shell.Shell.{Shell}
-use Rattle.ftd_shell.specs.declared.shell.Shows.{Shows}
-
--- an import reads a file, and no other job does
-abbrev pub reads_file : Job → Bool
-reads_file (job.Import sheet file is_trial) = true
-reads_file other = false
-
--- a shell does each job but imports, and those where it does imports
-abbrev pub is_for_shell : Bool → Job → Bool
-is_for_shell does_imports asked = does_imports || not (reads_file asked)
-
--- the job, if it is one that a shell does, which does imports or not
-abbrev pub job_if : Bool → Job → Option Job
-job_if does_imports asked = if is_for_shell does_imports asked then Some asked else None
-
--- the job that a task does with a desk, if it is such a one
-abbrev pub job_of : Bool → Task → Option Job
-job_of does_imports (task.Local local) = job_if does_imports local.job
-job_of does_imports other = None
 
 -- what stays the same in a shell: the file of its desk, as hints name it, whether it does imports,
 -- and what it shows
@@ -72,33 +53,6 @@ no_text = codes "error: a word is no text\n"
 
 abbrev pub too_long : List ℕ
 too_long = codes "error: the line has more than 65536 bytes\n"
-
--- a command, as it is shown
-abbrev pub command_text : List ℕ → List ℕ
-command_text shown = codes "$ ftd " ++ (shown ++ codes "\n")
-
--- the same before its answer, where commands are shown
-abbrev pub echo_text : Shows → List ℕ → List ℕ
-echo_text shows shown = if shows.commands then command_text shown else []
-
--- the line, and below it what was said of it on standard error; nothing where nothing was said
-abbrev pub named_text : ℕ → List ℕ → List ℕ → List ℕ
-named_text number shown [] = []
-named_text number shown (byte ∷ said) =
-    codes "line " ++ (decimal number ++ (codes ": " ++ (shown ++ (codes "\n" ++ (byte ∷ said)))))
-
-abbrev pub said_text : Shows → ℕ → List ℕ → List ℕ → List ℕ
-said_text shows number shown said =
-    if shows.lines then named_text number shown said else said
-
--- ---- the status
-
-abbrev pub greater : ℕ → ℕ → ℕ
-greater status other = if nat_lt status other then other else status
-
--- a script ends where a line failed, and with --stop where one was not answered
-abbrev pub is_last : Bool → ℕ → Bool
-is_last has_stop status = (status == 3) || (has_stop && not (status == 0))
 
 -- ---- a port over bytes in memory, which keeps what is said of a line
 

@@ -1,5 +1,5 @@
 -- How the lines of a script are understood, and listed.
-use Rattle.std.specs.Prelude.{◌≡◌, ◌+◌, ◌++◌, ℕ, Bool, false, true, List, [], ◌∷◌, Ok, Err, Result}
+use Rattle.std.specs.Prelude.{◌≡◌, ◌+◌, ◌++◌, ℕ, false, true, List, [], ◌∷◌, Ok, Result}
 use Rattle.std.specs.Prelude.{Option, None, Some, flat_map, is_some, map}
 use Rattle.std.specs.String.{string_bytes}
 use Rattle.ftd_machine.specs.Questions.{question_of}
@@ -14,7 +14,8 @@ use Rattle.ftd_cli.specs.declared.tasks.Task.{Task}
 use Rattle.ftd_machine.specs.declared.requests.Request.{Request}
 use Rattle.ftd_replies.specs.Notes.{asked_when_done}
 use Rattle.ftd_shell.specs.Listed.{Asked, IsAsked, in_list, requests_of}
-use Rattle.ftd_shell.specs.Shells.{Ways, job_of}
+use Rattle.ftd_script.specs.Jobs.{job_asked}
+use Rattle.ftd_shell.specs.Shells.{Ways}
 use Rattle.ftd_shell.specs.declared.listed.Listed.{Listed}
 use Rattle.ftd_shell.specs.declared.listed.ListedLine.{ListedLine}
 use Rattle.ftd_shell.specs.declared.understood.Entry.{Entry}
@@ -37,11 +38,6 @@ UnderstoodAs given (understood.Enters entry) =
     (given ≡ words_of entry) × (question_of entry.request ≡ None)
 UnderstoodAs given (understood.Asks words) = words ≡ given
 UnderstoodAs given other = ⊥
-
--- the job that a shell does of what was decided
-abbrev pub job_asked : Bool → Result Task CliFault → Result (Option Job) CliFault
-job_asked does_imports (Ok task) = Ok (job_of does_imports task)
-job_asked does_imports (Err fault) = Err fault
 
 -- the words of a line ask this, on a day that the clock told
 pub record AsksJob (ways : Ways) (words : List (List ℕ)) (asked : Result (Option Job) CliFault)

@@ -8,4 +8,5 @@ mod told;
 mod turns;
 mod understood;
 
-pub use crate::shell::{Inputs, Script, Shell, Shows, Unread};
+pub use crate::shell::{Inputs, Script, Shell, Unread};
+pub use ftd_script::Shows;

@@ -6,28 +6,27 @@ ghost use Rattle.ftd_cli.specs.Lines.{NextOf, line_of, shown_words};
 ghost use Rattle.ftd_cli.specs.declared.lines.Piece.{Piece as Pieces};
 ghost use Rattle.ftd_ports.specs.Writing.{Writes};
 ghost use Rattle.ftd_replies.specs.Putting.{IsPut};
+ghost use Rattle.ftd_script.specs.Jobs.{reads_file};
+ghost use Rattle.ftd_script.specs.Shown.{echo_text, said_text};
 ghost use Rattle.ftd_shell.specs.Scripts.{AnswersScript, EndsUnread};
 ghost use Rattle.ftd_shell.specs.Shells.{AnswersNext, AnswersPiece, AnswersWords, DoesAsked};
-ghost use Rattle.ftd_shell.specs.Shells.{DoesJob, HasNoMemory, TellsBad, command_text, echo_text};
-ghost use Rattle.ftd_shell.specs.Shells.{greater, is_for_shell, is_last, job_if, job_of};
-ghost use Rattle.ftd_shell.specs.Shells.{named_text, reads_file};
-ghost use Rattle.ftd_shell.specs.Shells.{said_text, ways_of};
+ghost use Rattle.ftd_shell.specs.Shells.{DoesJob, HasNoMemory, TellsBad, ways_of};
 ghost use Rattle.ftd_shell.specs.ListedLines.{AnswersAfter, AnswersAlone, AnswersTaken};
 ghost use Rattle.ftd_shell.specs.Understanding.{AsksJob, Understands, UnderstandsLine};
-ghost use Rattle.ftd_shell.specs.Understanding.{UnderstandsWords, job_asked};
+ghost use Rattle.ftd_shell.specs.Understanding.{UnderstandsWords};
 
 use crate::listed::Listed;
 use crate::understood::{Understood, Words, of_request, of_words};
 use ftd_cli::{
-    CliFault, DayClock, Job, Line, Piece, Task, command_words, decide_today, read_line, shown_words,
+    CliFault, DayClock, Job, Line, Piece, command_words, decide_today, read_line, shown_words,
 };
 use ftd_desk::Desk;
 use ftd_imports::Quiet;
-use ftd_ports::{Port, Target, WriteFault, write_pieces};
+use ftd_ports::{Port, Target, WriteFault};
 use ftd_program::{JobEnd, fail_output, perform, print_line};
 use ftd_replies::{put, request_in, tell};
+use ftd_script::{Shows, greater, is_last, job_asked, put_named, reads_file, write_command};
 use ftd_verbs::TEXT;
-use itoa::Buffer;
 use sqlite::Alter;
 use std::alloc::Global;
 
@@ -74,15 +73,6 @@ struct Taken {
     is_ready: bool,
 }
 
-/// What a shell shows beside its answers.
-#[derive(Clone, Copy, Debug, PartialEq, Eq)]
-pub struct Shows {
-    /// Each command, before its answer.
-    pub commands: bool,
-    /// The line, before what is said of it on standard error.
-    pub lines: bool,
-}
-
 /// A desk that answers the lines of a script, where the files come from that imports name, and what
 /// tells the day of today to a line that leaves it out.
 pub struct Shell<S: Alter, F> {
@@ -105,88 +95,11 @@ const NO_TEXT: &[u8] = b"error: a word is no text\n";
 /// What is told of a line that is too long.
 const TOO_LONG: &[u8] = b"error: the line has more than 65536 bytes\n";
 
-/// Whether the job reads a file, as an import does.
-fn reads_file(job: &Job) -> bool
-    ensures { result ≡ reads_file job.now }
-{
-    matches!(job, Job::Import { .. })
-}
-
-/// Whether a shell does the job, which does imports or not.
-fn is_for_shell(job: &Job, does_imports: bool) -> bool
-    ensures { result ≡ is_for_shell does_imports job.now }
-{
-    does_imports || !reads_file(job)
-}
-
-/// The job, if it is one that a shell does, which does imports or not.
-fn job_if(job: Job, does_imports: bool) -> Option<Job>
-    ensures { result ≡ job_if does_imports job }
-{
-    if is_for_shell(&job, does_imports) {
-        Some(job)
-    } else {
-        None
-    }
-}
-
-/// The job that a task does with a desk, if it is one that a shell does, which does imports or not.
-fn job_of(task: Task, does_imports: bool) -> Option<Job>
-    ensures { result ≡ job_of does_imports task }
-{
-    match task {
-        Task::Local(task) => job_if(task.job, does_imports),
-        _ => None,
-    }
-}
-
-/// The job that a shell does of what was decided, which does imports or not.
-fn job_asked(decided: Result<Task, CliFault>, does_imports: bool) -> Result<Option<Job>, CliFault>
-    ensures { result ≡ job_asked does_imports decided }
-{
-    match decided {
-        Ok(task) => Ok(job_of(task, does_imports)),
-        Err(fault) => Err(fault),
-    }
-}
-
 /// Says that there was no memory.
 fn fail_memory<O, E: Target>(out: O, err: E) -> JobEnd<O, E>
     ensures { HasNoMemory E.taken E.failed out err result }
 {
     print_line(3, b"failed 21 Memory\n", out, err)
-}
-
-/// Writes the words of a command, as they are shown.
-fn write_command<O: Target>(shown: &str, out: &mut O) -> Result<(), WriteFault>
-    ensures { Writes result (O.taken out.old) (O.taken out.new) (O.failed out.new)
-        (command_text shown.now) }
-{
-    write_pieces(out, &[b"$ ftd ", shown.as_bytes(), b"\n"])
-}
-
-/// Puts what was said of a line on standard error, below the line. Nothing is put where nothing was
-/// said.
-fn put_named<E: Target>(number: u64, shown: &str, said: &[u8], err: &mut E)
-    ensures { IsPut (E.taken err.old) (E.taken err.new) (E.failed err.new)
-        (named_text number shown.now said.now) }
-{
-    if !said.is_empty() {
-        let mut digits = Buffer::new();
-        let number = digits.format(number).as_bytes();
-        // Where standard error fails, the status still tells.
-        let _ = write_pieces(
-            err,
-            &[b"line ", number, b": ", shown.as_bytes(), b"\n", said],
-        );
-    }
-}
-
-/// The greater status.
-pub(crate) fn greater(status: u8, other: u8) -> u8
-    ensures { result ≡ greater status other }
-{
-    if status < other { other } else { status }
 }
 
 /// Says why a script can't be read further, after these answers.
@@ -197,19 +110,29 @@ pub(crate) fn end_unread<O, E: Target>(unread: &Unread, before: JobEnd<O, E>) ->
     print_line(greater(status, unread.status), &unread.said, out, err)
 }
 
-/// Whether a script ends after a line, where this is the greatest status so far.
-pub(crate) fn is_last(has_stop: bool, status: u8) -> bool
-    ensures { result ≡ is_last has_stop status }
-{
-    status == 3 || (has_stop && status != 0)
-}
-
 /// Whether lines that are listed wait for the next: where the last one is not to be answered alone,
 /// what comes next is there, and there is room for it.
 fn waits(alone: &Option<Understood>, is_ready: bool, is_full: bool) -> bool
     ensures { result ≡ true → alone.now ≡ None }
 {
     alone.is_none() && is_ready && !is_full
+}
+
+impl<S: Alter, F: Drop> Shell<S, F> {
+    /// The desk of a shell that answers no more.
+    pub fn into_desk(self) -> Desk<S>
+        ensures { result ≡ self.desk }
+    {
+        let Shell {
+            desk,
+            alloc: _,
+            db: _,
+            inputs: _,
+            does_imports: _,
+            shows: _,
+        } = self;
+        desk
+    }
 }
 
 impl<S: Alter, F: Inputs + DayClock> Shell<S, F> {

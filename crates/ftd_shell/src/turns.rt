@@ -10,13 +10,14 @@ ghost use Rattle.ftd_shell.specs.ListedLines.{AnswersListed, EndsListed, IsOf};
 ghost use Rattle.ftd_shell.specs.Understanding.{AreListed, Holds, IsListed};
 
 use crate::listed::{Listed, ListedLine};
-use crate::shell::{Inputs, Shell, Unread, end_unread, greater, is_last};
+use crate::shell::{Inputs, Shell, Unread, end_unread};
 use crate::told::{Told, first_told, tell_answer};
 use ftd_cli::DayClock;
 use ftd_desk::AllOrNone;
 use ftd_machine::{Answer, Refusal, Request};
 use ftd_ports::{Port, Target};
 use ftd_program::{JobEnd, fail_output};
+use ftd_script::{greater, is_last};
 use sqlite::Alter;
 
 impl<S: Alter, F: Inputs + DayClock> Shell<S, F> {

@@ -2,7 +2,8 @@ use Rattle.std.proofs.Common.{◌≡◌, ◌+◌, List, false, length}
 use Rattle.ftd_desk.specs.declared.desk.Desk.{Desk}
 use Rattle.ftd_shell.specs.Listed.{Asked}
 use Rattle.ftd_shell.specs.Scripts.{AnswersLines, Turn, lines_of}
-use Rattle.ftd_shell.specs.Shells.{is_last, ways_of}
+use Rattle.ftd_shell.specs.Shells.{ways_of}
+use Rattle.ftd_script.specs.Statuses.{is_last}
 use Rattle.ftd_shell.specs.Understanding.{Holds}
 use Rattle.ftd_program.specs.declared.performing.JobEnd.{JobEnd}
 use Rattle.ftd_shell.proofs.Turning.{Turned}
