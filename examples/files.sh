@@ -1,6 +1,6 @@
 #!/bin/bash
-# What the program says of files that it can't use, each beside what it has to say: a directory, a folder that is not there, a text,
-# somebody else's database, one of a later version, one cut short, one with a byte that flipped, one that sqlite3 wrote to, one that
+# What the program says of files that it can't use, each beside what it has to say: a directory, a folder that is not there or can't be written, a link
+# that leads nowhere, a name that is too long, a second name, a journal of another program, a text, somebody else's database, one of a later version, one cut short, one with a byte that flipped, one that sqlite3 wrote to, one that
 # may not be read, one that another program holds, a disk that is full, a log that can't be copied; that a trial leaves a file of an older version; and
 # what a check says of files whose rows were changed.
 # A server that reads its file twice before it listens is told by strace. It needs sqlite3, curl and strace. Usage: examples/files.sh PATH-OF-FTD [PORT]
@@ -59,6 +59,15 @@ says 'failed File 3' "$ftd" "${ask[@]}" folder
 hints 'folder: it is a folder'
 says 'failed File 3' "$ftd" "${ask[@]}" not/there.db
 hints 'not/there.db: its folder is not there'
+# a link whose file can't be made, a name that is too long for its log to have one, a folder that can't be written, a second name, and a
+# journal that sqlite3 left: no file is made for any of them
+ln -s not/there.db dangling.db
+says 'failed File 3' "$ftd" "${ask[@]}" dangling.db
+hints "dangling.db: it is a link to a file that can't be made"
+long=$(printf 'a%.0s' $(seq 252)).db
+says 'failed File 3' "$ftd" "${ask[@]}" "$long"
+hints "$long: its name is too long"
+says ' 0' bash -c "ls | grep aaa; printf ''"
 says 'failed File 3' "$ftd" import missing.csv --db office.db
 hints 'missing.csv: it is not there'
 says 'failed File 3' "$ftd" import folder --db office.db
@@ -123,6 +132,18 @@ as_somebody=()
 [ "$(id -u)" != 0 ] || as_somebody=(setpriv --reuid 65534 --regid 65534 --clear-groups)
 says 'failed File 3' "${as_somebody[@]}" ./ftd "${ask[@]}" locked.db
 hints 'locked.db: this user may not use it'
+mkdir unwritten
+chmod 555 unwritten
+says 'failed File 3' "${as_somebody[@]}" ./ftd calendar 2024 --db unwritten/office.db
+hints "unwritten/office.db: its folder can't be written"
+cp office.db first.db
+ln first.db second.db
+says 'failed File 3' "$ftd" "${ask[@]}" second.db
+hints 'second.db: it has a second name (a hard link): use a copy'
+cp office.db hot.db
+printf '\331\325\005\371 \241c\327 a journal' > hot.db-journal
+says 'failed File 3' "$ftd" "${ask[@]}" hot.db
+hints 'hot.db: another program left hot.db-journal: open the file with sqlite3, then try again'
 cp office.db full.db
 says 'failed 22 Store 3' in_so_many_blocks "$(($(stat -c %s full.db) / 1024))" "$ftd" calendar 2026 --db full.db
 says 'done 0' "$ftd" calendar 2026 --db full.db

@@ -1,5 +1,5 @@
 -- What the file of a desk and its log hold, and what a desk stands for that is opened over them.
-use Rattle.std.specs.Prelude.{IfOk, Result}
+use Rattle.std.specs.Prelude.{◌≡◌, ◌⊎◌, IfOk, Result}
 use Rattle.sqlite_disk.specs.declared.Disk.{Ghosts}
 use Rattle.sqlite_disk.specs.declared.Files.{Files}
 use Rattle.sqlite_store.specs.declared.store.FileStore.{FileStore}
@@ -7,9 +7,9 @@ use Rattle.sqlite_wal.specs.Files.{outcomes}
 use Rattle.sqlite_wal.specs.Reads.{AreClean}
 use Rattle.sqlite_wal.specs.Recovery.{Image}
 use Rattle.sqlite.specs.Effect.{Database, IsDatabase}
-use Rattle.sqlite.specs.Files.{HoldsDatabase, image_of, over_files}
+use Rattle.sqlite.specs.Files.{HoldsDatabase, IsNothing, image_of, over_files}
 use Rattle.sqlite.specs.State.{HasCleanDisk}
-use Rattle.ftd_machine.specs.State.{State}
+use Rattle.ftd_machine.specs.State.{State, nothing}
 use Rattle.ftd_entries.specs.Words.{IsKept}
 use Rattle.ftd_desk.specs.Desks.{Held, IsStopped, Keeps, held}
 use Rattle.ftd_desk.specs.declared.desk.Desk.{Desk}
@@ -22,10 +22,13 @@ pub record HoldsState (image : Image) (s : State) : Type 0 where
   pub kept : IsKept db s
   pub holds : ∥ HoldsDatabase image db.trees ∥₁
 
--- a desk stands for each state that these bytes hold
+-- they stand for a state: they hold it, or they hold no database yet, and nothing was entered
+abbrev pub StandFor : Image → State → Type 0
+StandFor image s = HoldsState image s ⊎ (IsNothing image × (s ≡ nothing))
+
+-- a desk stands for each state for which these bytes stand
 abbrev pub StandsOver : Image → Held → Type 0
-StandsOver image desk =
-    HasCleanDisk desk.db → (s : State) → HoldsState image s → Keeps desk s
+StandsOver image desk = HasCleanDisk desk.db → (s : State) → StandFor image s → Keeps desk s
 
 -- a state rests in files: their bytes hold it, and so do the bytes that a crash may leave of them
 pub record RestsInFiles {D : Type 0} (g : Ghosts D) (files : Files D) (s : State) : Type 0 where
@@ -47,7 +50,8 @@ module _ {D : Type 0} (g : Ghosts D)
     pub becomes : Becomes old new
     pub keeps : IfOk files (KeepsInFiles g (held over_files new))
 
-  -- so a desk that was opened over files with these bytes: it stands for each state that they hold
+  -- so a desk that was opened over files with these bytes: it stands for each state for which they
+  -- stand
   pub record GoesInFiles (image : Image) : Type 0 where
     pub old : Desk (FileStore D g)
     pub goes : ¬ IsStopped old

@@ -25,6 +25,9 @@ pub enum ProgramFault {
     /// The log can't be copied into the database file, which is closed without it.
     #[error("failed File")]
     NotClosed,
+    /// Another program left a journal beside the database file, which only it can play back.
+    #[error("failed File")]
+    Journal,
     /// The input can't be read, and why.
     #[error("failed File")]
     Input(ErrorKind),
@@ -79,7 +82,8 @@ impl From<OpenError> for ProgramFault {
             OpenError::OutOfMemory => ProgramFault::Memory,
             OpenError::Busy => ProgramFault::Busy,
             OpenError::Io(error) if error.kind() == ErrorKind::OutOfMemory => ProgramFault::Memory,
-            OpenError::Io(_) | OpenError::HotJournal => ProgramFault::File,
+            OpenError::Io(_) => ProgramFault::File,
+            OpenError::HotJournal => ProgramFault::Journal,
         }
     }
 }

@@ -8,6 +8,7 @@ use sqlite::{Files, Start, Unknown};
 use sqlite_std_file::FileFrom;
 use std::alloc::AllocError;
 use std::fs::{self, OpenOptions};
+use std::io::ErrorKind;
 use std::os::unix::fs::OpenOptionsExt;
 use std::thread;
 use std::time::Duration;
@@ -34,6 +35,15 @@ pub(crate) fn log_of(rt: &HostRuntime, db: &str) -> Result<String, AllocError> {
     match fs::canonicalize(rt, db) {
         Ok(path) => format!(in rt.alloc(); "{}-wal", path.as_str()),
         Err(_) => format!(in rt.alloc(); "{db}-wal"),
+    }
+}
+
+/// Whether the system takes the name of the file's log.
+pub(crate) fn has_log_name(rt: &HostRuntime, db: &str) -> bool {
+    match log_of(rt, db) {
+        Ok(log) => !fs::symlink_metadata(rt, log.as_str()).is_err_and(|error| error.kind()
+            == ErrorKind::InvalidFilename),
+        Err(_) => true,
     }
 }
 
@@ -86,7 +96,8 @@ fn make_private(rt: &HostRuntime, db: &str) {
         .open(rt, db);
 }
 
-/// The file and its log. `File` for the names that sqlite keeps for databases of other kinds.
+/// The file and its log. `File` for the names that sqlite keeps for databases of other kinds, and
+/// for one that is too long for its log to have a name: no file is made then.
 fn files_of<S: Start>(
     rt: &HostRuntime,
     db: &str,
@@ -94,7 +105,7 @@ fn files_of<S: Start>(
 ) -> Result<Files<FileFrom<S>>, ProgramFault>
     ensures { IfOk result (λ files. IsFresh true files.log × IsFresh false files.db) }
 {
-    if db == ":memory:" || db.starts_with("file:") {
+    if db == ":memory:" || db.starts_with("file:") || !has_log_name(rt, db) {
         return Err(ProgramFault::File);
     }
     make_private(rt, db);

@@ -1,11 +1,13 @@
 //! What can be done about a fault of the program: a line that begins with `hint: `.
 
 use crate::faults::ProgramFault;
+use crate::files::has_log_name;
 use crate::folder::{has_folder, meant};
 use ftd_cli::escape_word;
 use std::alloc::{AllocError, Global};
 use std::fs::{self, File};
 use std::io::ErrorKind;
+use std::os::unix::fs::MetadataExt;
 
 /// Why a file can't be made.
 const NO_FOLDER: &str = "its folder is not there";
@@ -20,6 +22,7 @@ pub fn tell_fault(rt: &HostRuntime, fault: ProgramFault, db: &str, input: &str) 
         ProgramFault::File => tell_file(rt, db, file_reason(rt, db)),
         ProgramFault::Missing => tell_missing(rt, db),
         ProgramFault::NotClosed => tell_log(rt, db),
+        ProgramFault::Journal => tell_journal(rt, db),
         ProgramFault::Busy => tell_file(rt, db, "--wait SECONDS waits until it is closed"),
         ProgramFault::Corrupt => tell_file(
             rt,
@@ -73,6 +76,15 @@ fn tell_log(rt: &HostRuntime, db: &str) {
     }
 }
 
+/// Tells of the journal that another program left.
+fn tell_journal(rt: &HostRuntime, db: &str) {
+    if let Ok(name) = escape_word(rt.alloc(), db) {
+        let _ = eprint!(rt;
+            "hint: {name}: another program left {name}-journal: open the file with sqlite3, then try again\n"
+        );
+    }
+}
+
 /// The hint that says of a file why it can't be used. Empty where it has no name.
 fn file_hint(alloc: Global, name: &str, why: &str) -> Result<String, AllocError> {
     if name.is_empty() {
@@ -104,6 +116,7 @@ fn reason(kind: ErrorKind) -> &'static str {
         ErrorKind::NotFound => "it is not there",
         ErrorKind::PermissionDenied => "this user may not use it",
         ErrorKind::IsADirectory => "it is a folder",
+        ErrorKind::InvalidFilename => "its name is too long",
         _ => "it can't be read",
     }
 }
@@ -114,11 +127,25 @@ fn file_reason(rt: &HostRuntime, db: &str) -> &'static str {
     match fs::metadata(rt, db) {
         Ok(data) if data.is_dir() => "it is a folder",
         Ok(data) if !data.is_file() => "it is no file",
+        Ok(data) if data.nlink() > 1 => "it has a second name (a hard link): use a copy",
         Ok(_) => match File::open(rt, db) {
             Ok(_) => "it, its -wal or its folder can't be written",
             Err(error) => reason(error.kind()),
         },
-        Err(error) if error.kind() == ErrorKind::NotFound => NO_FOLDER,
+        Err(error) if error.kind() == ErrorKind::NotFound => unmade_reason(rt, db),
         Err(error) => reason(error.kind()),
+    }
+}
+
+/// Why a database file that does not exist can't be made.
+fn unmade_reason(rt: &HostRuntime, db: &str) -> &'static str {
+    if fs::symlink_metadata(rt, db).is_ok() {
+        "it is a link to a file that can't be made"
+    } else if !has_folder(rt, db) {
+        NO_FOLDER
+    } else if has_log_name(rt, db) {
+        "its folder can't be written"
+    } else {
+        "its name is too long"
     }
 }

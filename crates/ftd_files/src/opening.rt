@@ -62,7 +62,7 @@ fn connected<D: Disk + Drop>(
 }
 
 /// The desk over the database of these files, whose tables are made if they are not there. It
-/// stands for each state that the files hold. If they can't be used, they are closed.
+/// stands for each state for which the files stand. If they can't be used, they are closed.
 fn open_over<D: Disk + Drop>(
     alloc: Global,
     files: Files<D>,
@@ -87,8 +87,9 @@ pub trait DeskFiles<D: Disk + Drop> {
     /// The bytes that the two hold as they are opened.
     ghost image: { Image };
 
-    /// Opens a desk over them. It stands for each state that their bytes hold, and answers. An
-    /// error says why they can't be used; they are closed then.
+    /// Opens a desk over them. It stands for each state for which their bytes stand: one that they
+    /// hold, or, where they hold no database yet, the one in which nothing was entered. It answers.
+    /// An error says why they can't be used; they are closed then.
     fn open_desk(&self) -> Result<Desk<FileStore<D>>, ProgramFault>
         ensures stands { IfOk result (λ desk. StandsOver image (held over_files desk)) }
         ensures goes { IfOk result (λ desk. ¬ IsStopped desk) };
@@ -98,6 +99,7 @@ pub trait DeskFiles<D: Disk + Drop> {
 /// them until they are let go.
 #[derive(Clone, Copy)]
 pub struct FileAt<'a, B> {
+    /// What opens files.
     pub rt: &'a HostRuntime,
     /// The name of the file.
     pub db: &'a str,
