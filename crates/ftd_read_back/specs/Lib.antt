@@ -1,0 +1,10 @@
+pub mod Lines
+pub mod Dates
+pub mod Rows
+pub mod Cells
+pub mod Periods
+pub mod Tables
+pub mod Events
+pub mod Objects
+pub mod Kept
+pub mod Explained
