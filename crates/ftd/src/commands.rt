@@ -5,4 +5,4 @@ mod body;
 mod served;
 mod written;
 
-pub(crate) use crate::commands::served::{ByShell, server_desk, server_shell};
+pub(crate) use crate::commands::served::{ByShell, server_shell};

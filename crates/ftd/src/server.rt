@@ -1,33 +1,124 @@
 //! The server: connections over the desk of a database file.
 
-use crate::commands::{server_desk, server_shell};
+ghost use Rattle.std.specs.Prelude.{◌≤◌, IfOk};
+ghost use Rattle.std.specs.String.{string_bytes};
+ghost use Rattle.ftd.specs.Commands.{file_of};
+ghost use Rattle.ftd.specs.Serving.{ServesFrom, ServesInFiles};
+
+use crate::commands::server_shell;
 use crate::shell::Around;
-use ftd_cli::ServeTask;
-use ftd_desk::Desk;
+use ftd_cli::{DayClock, ServeTask};
 use ftd_connections::{Limits, announce, serve_on};
 use ftd_files::{DeskFiles, FileAt, ProgramFault, SupposesNothing, close_desk, is_new, tell_made};
-use ftd_ports::Port;
-use ftd_shell::Shell;
+use ftd_ports::{Port, Target};
+use ftd_shell::{Inputs, Shell};
 use ftd_waiting::WaitingRoom;
-use sqlite::{Alter, FileStore};
+use sqlite::{FileStore, Files};
 use sqlite_disk::Disk;
+use std::alloc::AllocError;
 use std::io;
 use std::net::TcpListener;
+use std::time::Clock;
 
 /// For how many seconds at least a server tries to open its file again.
 const REOPENING: u32 = 10;
 
+/// Which connections are served, and how long each may take.
+#[derive(Clone, Copy)]
+struct Turns {
+    limits: Limits,
+    /// How many were taken before.
+    taken: u32,
+}
+
+/// A server over the desk of files.
+#[derive(Drop)]
+struct FileServer<F, N> {
+    files: F,
+    /// The name of the file, as hints have it.
+    db: String,
+    /// The clock of its pages.
+    inputs: N,
+}
+
+/// What came of serving with the desk of files.
+#[derive(Drop)]
+struct FilesServed<D: Disk> {
+    /// How many connections were taken in all.
+    taken: u32,
+    /// The files, which are closed.
+    files: Result<Files<D>, ProgramFault>,
+}
+
+/// Serves connections after so many others with the desk of files, until all are served or the desk
+/// does not answer any more. The files are closed then.
+fn serve_shell<R, D, N, E>(
+    rt: &R,
+    room: &mut WaitingRoom<'_>,
+    turns: Turns,
+    shell: Shell<FileStore<D>, N>,
+    err: &mut E,
+) -> FilesServed<D>
+where
+    R: Clock + AllocGlobal,
+    D: Disk + Drop,
+    N: Inputs + DayClock + Drop,
+    E: Target,
+    requires { turns.taken ≤ turns.limits.connections }
+    ensures { ServesInFiles N.told (E.taken err.old) (E.taken err.new) (E.failed err.new)
+        (file_of shell) turns.taken D.Disk result shell.desk }
+{
+    let mut shell = shell;
+    let taken = serve_on(rt, room, turns.limits, turns.taken, &mut shell, err);
+    FilesServed {
+        taken,
+        files: close_desk(shell.into_desk()),
+    }
+}
+
+/// Serves connections after so many others with the desk of files, which are opened for it and
+/// closed then: the desk stands for each state for which the files stood, its messages are answered
+/// as by that desk, one connection after the other, and each state for which it stands at the end
+/// rests in the files. An error says why they can't be opened; no connection was taken then.
+fn serve_in_files<R, D, F, N, E>(
+    rt: &R,
+    room: &mut WaitingRoom<'_>,
+    turns: Turns,
+    server: FileServer<F, N>,
+    err: &mut E,
+) -> Result<FilesServed<D>, ProgramFault>
+where
+    R: Clock + AllocGlobal,
+    D: Disk + Drop,
+    F: DeskFiles<D> + Drop,
+    N: Inputs + DayClock + Drop,
+    E: Target,
+    requires { turns.taken ≤ turns.limits.connections }
+    ensures { IfOk result (λ done. ServesFrom N.told (E.taken err.old) (E.taken err.new)
+        (E.failed err.new) (string_bytes server.db) turns.taken D.Disk done F.DeskFiles.image) }
+{
+    let FileServer { files, db, inputs } = server;
+    let desk = files.open_desk()?;
+    let shell = server_shell(rt.alloc(), db, desk, inputs);
+    Ok(serve_shell(rt, room, turns, shell, err))
+}
+
 /// Serves so many connections of this machine, one after the other. If its store fails, the file is
-/// closed, and opened again for the next connection; those that wait go on waiting. `NotClosed` if it
-/// can't be closed at the end.
+/// closed, and opened again for the next connection; those that wait go on waiting. `NotClosed` if
+/// it can't be closed at the end.
 pub fn serve_file(rt: &HostRuntime, task: &ServeTask) -> Result<u8, ProgramFault> {
     let Ok(listener) = TcpListener::bind(rt, ("127.0.0.1", task.port)) else {
         return Err(ProgramFault::Net);
     };
     let is_new = is_new(rt, &task.db)?;
-    let desk = file_of(rt, task, task.wait).open_desk()?;
+    let server = server_of(rt, task, task.wait)?;
+    let desk = server.files.open_desk()?;
+    let shell = server_shell(rt.alloc(), server.db, desk, server.inputs);
     let mut room = WaitingRoom::new(rt, &listener);
-    let Some(mut taken) = serve_first(rt, task, &mut room, desk, is_new)? else {
+    if is_new {
+        tell_made(rt, &task.db);
+    }
+    let Some(mut taken) = serve_first(rt, task, &mut room, shell)? else {
         return Ok(3);
     };
     // Each turn takes one connection at least.
@@ -35,78 +126,84 @@ pub fn serve_file(rt: &HostRuntime, task: &ServeTask) -> Result<u8, ProgramFault
         if taken >= task.connections {
             break;
         }
-        let desk = file_of(rt, task, task.wait.max(REOPENING)).open_desk()?;
-        taken = serve_again(rt, task, &mut room, taken, desk)?;
+        taken = serve_again(rt, task, &mut room, taken)?;
     }
     Ok(0)
 }
 
-/// The file of a server's desk, which is tried for so many seconds.
-fn file_of<'a>(rt: &'a HostRuntime, task: &'a ServeTask, wait: u32) -> FileAt<'a, SupposesNothing> {
-    FileAt {
+/// A server over the task's file, which is tried for so many seconds.
+fn server_of<'a>(
+    rt: &'a HostRuntime,
+    task: &'a ServeTask,
+    wait: u32,
+) -> Result<FileServer<FileAt<'a, SupposesNothing>, Around<'a>>, AllocError> {
+    let files = FileAt {
         rt,
         db: &task.db,
         wait,
         has_short_log: true,
         start: SupposesNothing,
+    };
+    Ok(FileServer {
+        files,
+        db: String::from_str(rt.alloc(), &task.db)?,
+        inputs: Around::new(rt, true),
+    })
+}
+
+/// The connections that the task takes, after so many others.
+fn turns_of(task: &ServeTask, taken: u32) -> Turns
+    ensures { result.taken ≤ result.limits.connections }
+{
+    let limits = Limits {
+        connections: task.connections,
+        idle: task.idle,
+        silence: task.silence,
+        duration: task.duration,
+    };
+    Turns {
+        limits,
+        taken: taken.min(limits.connections),
     }
 }
 
-/// The shell of a server with the desk of files.
-fn shell_of<'a, D: Disk + Drop>(
-    rt: &'a HostRuntime,
-    task: &ServeTask,
-    desk: Desk<FileStore<D>>,
-) -> Result<Shell<FileStore<D>, Around<'a>>, ProgramFault> {
-    let db = String::from_str(rt.alloc(), &task.db)?;
-    Ok(server_shell(rt.alloc(), db, desk, Around::new(rt, true)))
-}
-
-/// Tells at which port the server listens, and serves connections with the desk of files, which
-/// are closed; how many were taken. None if the port could not be told.
+/// Tells at which port the server listens, and serves connections with the desk of files, which are
+/// closed; how many were taken. None if the port could not be told.
 fn serve_first<D: Disk + Drop>(
     rt: &HostRuntime,
     task: &ServeTask,
     room: &mut WaitingRoom<'_>,
-    desk: Desk<FileStore<D>>,
-    is_new: bool,
+    shell: Shell<FileStore<D>, Around<'_>>,
 ) -> Result<Option<u32>, ProgramFault> {
-    let mut shell = shell_of(rt, task, desk)?;
-    if is_new {
-        tell_made(rt, &task.db);
+    if !is_announced(rt, task, room.listener()) {
+        close_desk(shell.into_desk())?;
+        return Ok(None);
     }
-    let mut taken = None;
-    if is_announced(rt, task, room.listener()) {
-        taken = Some(serve_until(rt, task, room, 0, &mut shell));
-    }
-    closed_after(shell, taken.is_none_or(|it| it >= task.connections))?;
-    Ok(taken)
+    let mut err = Port::new(rt.stderr());
+    let served = serve_shell(rt, room, turns_of(task, 0), shell, &mut err);
+    taken_of(task, served).map(Some)
 }
 
-/// Serves connections after so many others over the tables in files that were opened again, which
-/// are closed; how many were taken in all.
-fn serve_again<D: Disk + Drop>(
+/// Serves connections after so many others with the desk of the task's file, which is opened again,
+/// and closed; how many were taken in all.
+fn serve_again(
     rt: &HostRuntime,
     task: &ServeTask,
     room: &mut WaitingRoom<'_>,
     taken: u32,
-    desk: Desk<FileStore<D>>,
 ) -> Result<u32, ProgramFault> {
-    let mut shell = shell_of(rt, task, desk)?;
-    let taken = serve_until(rt, task, room, taken, &mut shell);
-    closed_after(shell, taken >= task.connections)?;
-    Ok(taken)
+    let server = server_of(rt, task, task.wait.max(REOPENING))?;
+    let mut err = Port::new(rt.stderr());
+    let served = serve_in_files(rt, room, turns_of(task, taken), server, &mut err)?;
+    taken_of(task, served)
 }
 
-/// Closes the files of a shell's desk. `NotClosed` if they can't be and are not opened again, by
-/// which what is in the log would be found.
-fn closed_after<D: Disk + Drop>(
-    shell: Shell<FileStore<D>, Around<'_>>,
-    is_last: bool,
-) -> Result<(), ProgramFault> {
-    match close_desk(server_desk(shell)) {
-        Err(fault) if is_last => Err(fault),
-        Ok(_) | Err(_) => Ok(()),
+/// How many connections were taken. `NotClosed` if the files could not be closed and are not opened
+/// again, by which what is in the log would be found.
+fn taken_of<D: Disk + Drop>(task: &ServeTask, served: FilesServed<D>) -> Result<u32, ProgramFault> {
+    match served.files {
+        Err(fault) if served.taken >= task.connections => Err(fault),
+        Ok(_) | Err(_) => Ok(served.taken),
     }
 }
 
@@ -114,23 +211,4 @@ fn closed_after<D: Disk + Drop>(
 fn is_announced(rt: &HostRuntime, task: &ServeTask, listener: &TcpListener) -> bool {
     let (mut out, mut err) = (Port::new(io::writer(rt)), Port::new(rt.stderr()));
     announce(listener, task.port, &mut out, &mut err).is_ok()
-}
-
-/// Serves connections after so many others, until all are served or the shell's desk does not
-/// answer any more, and answers how many were taken in all.
-fn serve_until<S: Alter>(
-    rt: &HostRuntime,
-    task: &ServeTask,
-    room: &mut WaitingRoom<'_>,
-    taken: u32,
-    shell: &mut Shell<S, Around<'_>>,
-) -> u32 {
-    let limits = Limits {
-        connections: task.connections,
-        idle: task.idle,
-        silence: task.silence,
-        duration: task.duration,
-    };
-    let taken = taken.min(limits.connections);
-    serve_on(rt, room, limits, taken, shell, &mut Port::new(rt.stderr()))
 }

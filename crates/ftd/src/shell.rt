@@ -6,16 +6,13 @@ use crate::jobs::report_fault;
 use crate::lines::{Lines, read_ahead, unread};
 use ftd_cli::{DayClock, ShellTask};
 use ftd_days::Day;
-use ftd_desk::Desk;
 use ftd_files::{
-    DeskFiles, FileAt, ProgramFault, SupposesNothing, SystemClock, close_desk, import_input,
-    is_new, tell_made,
+    FileAt, ProgramFault, SupposesNothing, SystemClock, import_input, is_new, tell_made,
 };
-use ftd_local::Beginning;
+use ftd_local::{Beginning, FileScript, Streams, answer_in_files};
 use ftd_ports::{Port, write_all};
-use ftd_shell::{Inputs, Script, Shell, Shows, Unread};
-use sqlite::FileStore;
-use sqlite_disk::Disk;
+use ftd_shell::{Inputs, Script, Shows, Unread};
+use std::alloc::AllocError;
 use std::fs::File;
 use std::io::{self, BufRead, BufReader, IsTerminal, LineWriter};
 
@@ -64,44 +61,25 @@ impl Inputs for Around<'_> {
     }
 }
 
-/// Answers the lines of the script with the desk of the tables in files, which are closed.
-fn over_files<D: Disk + Drop, L: Script + Drop>(
-    rt: &HostRuntime,
+/// How the lines of a script are answered.
+fn script_of<'a>(
+    rt: &'a HostRuntime,
     task: &ShellTask,
-    desk: Desk<FileStore<D>>,
     names_lines: bool,
-    script: L,
-) -> Result<u8, ProgramFault> {
-    let out = Port::new(LineWriter::new(rt.alloc(), io::writer(rt))?);
-    let err = Port::new(rt.stderr());
-    let mut shell = Shell {
-        alloc: rt.alloc(),
+) -> Result<FileScript<Around<'a>>, AllocError> {
+    Ok(FileScript {
         db: String::from_str(rt.alloc(), &task.db)?,
-        desk,
         inputs: Around::new(rt, task.script.as_str() == STANDARD_INPUT),
-        does_imports: true,
         shows: Shows {
             commands: task.has_echo,
             lines: names_lines,
         },
-    };
-    let mut script = script;
-    let status = shell
-        .answer_script(&mut script, task.has_stop, out, err)
-        .status;
-    let Shell {
-        desk,
-        alloc: _,
-        db: _,
-        inputs: _,
-        does_imports: _,
-        shows: _,
-    } = shell;
-    close_desk(desk)?;
-    Ok(status)
+        has_stop: task.has_stop,
+    })
 }
 
-/// Opens the task's file, which is made if it is not there, and answers the lines of the script.
+/// Opens the task's file, which is made if it is not there, answers the lines of the script with
+/// its desk, and closes it. What is answered is printed line by line.
 fn over_file<L: Script + Drop>(
     rt: &HostRuntime,
     task: &ShellTask,
@@ -115,7 +93,15 @@ fn over_file<L: Script + Drop>(
         has_short_log: true,
         start: SupposesNothing,
     };
-    over_files(rt, task, file.open_desk()?, names_lines, script)
+    let streams = Streams {
+        out: Port::new(LineWriter::new(rt.alloc(), io::writer(rt))?),
+        err: Port::new(rt.stderr()),
+    };
+    let asked = script_of(rt, task, names_lines)?;
+    let mut script = script;
+    let done = answer_in_files(rt.alloc(), &file, asked, &mut script, streams)?;
+    done.files?;
+    Ok(done.end.status)
 }
 
 /// Answers the lines of a script where the file is not there: the first that asks something says

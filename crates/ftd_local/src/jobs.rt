@@ -81,10 +81,10 @@ fn over_desk<D: Disk + Drop, O: Target, E: Target, P: Progress>(
 }
 
 /// A command from its words to its file: opens a desk over files, does the job with it, and closes
-/// the files. The desk stands for each state that the files held, the job is done as by that desk,
-/// with what it prints and its exit status, and each state for which the desk stands after it rests
-/// in the files, so that the next command finds it, also after a crash. An error says why the files
-/// can't be opened; nothing was done then.
+/// the files. The desk stands for each state for which the files stood, nothing entered where they
+/// held no database, the job is done as by that desk, with what it prints and its exit status, and
+/// each state for which the desk stands after it rests in the files, so that the next command finds
+/// it, also after a crash. An error says why the files can't be opened; nothing was done then.
 pub fn do_in_files<D, F, O, E, P>(
     alloc: Global,
     files: &F,

@@ -1,8 +1,11 @@
-//! A job over the desk of a file: the file is opened, the job is done, and the file is closed.
+//! A job, or a script, over the desk of a file: the file is opened, what is asked is done, and the
+//! file is closed.
 #![tactic(auto)]
 
 mod beginning;
 mod jobs;
+mod scripts;
 
 pub use crate::beginning::{Beginning, beginning_of};
 pub use crate::jobs::{FileJob, FilesEnd, Streams, do_and_drop, do_in_files};
+pub use crate::scripts::{FileScript, answer_in_files};

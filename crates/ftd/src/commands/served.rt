@@ -46,21 +46,6 @@ pub(crate) fn server_shell<S: Alter, F>(
     }
 }
 
-/// The desk of a shell that serves no more.
-pub(crate) fn server_desk<S: Alter, F: Drop>(shell: Shell<S, F>) -> Desk<S>
-    ensures { result ≡ shell.desk }
-{
-    let Shell {
-        desk,
-        alloc: _,
-        db: _,
-        inputs: _,
-        does_imports: _,
-        shows: _,
-    } = shell;
-    desk
-}
-
 /// Answers the commands of a body, one a line, as a shell does, and writes the answers to memory.
 fn answer_body<S: Alter, F: Inputs + DayClock>(
     alloc: Global,

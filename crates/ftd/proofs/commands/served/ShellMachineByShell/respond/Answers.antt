@@ -1,6 +1,6 @@
 use Rattle.std.proofs.Common.{inr, refl}
 use Rattle.ftd_forms.specs.Shown.{forms_said}
-use Rattle.ftd_server.specs.Replying.{home}
+use Rattle.ftd_connections.specs.Home.{home}
 use Rattle.ftd_server.specs.Tables.{handles}
 use Rattle.ftd.proofs.Responses.{at_err, by_desk, if_ok, on_err, on_the_day}
 use Rattle.ftd.proofs.commands.served.ShellMachineByShell.respond.Goals as goal
