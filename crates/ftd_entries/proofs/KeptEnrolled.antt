@@ -1,12 +1,17 @@
 -- The accounts that are told by the rows of the table are all that are enrolled.
 use Rattle.std.proofs.Common.{◌≡◌, ◌∙◌, refl, sym, ap, subst, ℕ, List, [], ◌∷◌, Some, None}
-use Rattle.std.proofs.Common.{Option, ◌++◌, ◌+◌, ◌<◌, ◌≤◌, take, length, get_or}
+use Rattle.std.proofs.Common.{Option, ◌++◌, ◌+◌, ◌<◌, ◌≤◌, take, length, get_or, inl, inr, map, true}
+use Rattle.std.specs.List.{list_all}
+use Rattle.std.specs.List.Sorted.{IsPermutation}
+use Rattle.std.proofs.lemmas.Bool.{and_parts}
+use Rattle.std.proofs.lemmas.List.Sorted.{IsPermutation-map}
 use Rattle.ftd_store.specs.Lists.{Lists, Pairs}
 use Rattle.ftd_store.proofs.Items.{taken, pairs_more, paired_from, paired_to}
 use Rattle.ftd_store.proofs.Replaced.{all_taken}
 use Rattle.ftd_entries.specs.Known.{KnowsAccount}
 use Rattle.std.specs.Prelude.{filter, string_bytes, unwrap_or}
 use Rattle.ftd_days.proofs.Spelling.{same_text}
+use Rattle.ftd_rules.specs.Accounts.{is_account_name}
 use Rattle.ftd_rules.specs.Lists.{Has}
 use Rattle.ftd_rules.proofs.Members.{mapped_has}
 use Rattle.ftd_sql.specs.Orders.{NamesRise}
@@ -28,6 +33,10 @@ use Rattle.ftd_machine.proofs.Members.{found_some}
 use Rattle.ftd_entries.specs.Standing.{StandsFor, enrolled_row}
 use Rattle.ftd_entries.proofs.ListedRows.{passing_value}
 use Rattle.ftd_entries.specs.Accounts.{AreToldAccounts, IsToldAccount, KnowsAccounts, kept_account}
+use Rattle.ftd_entries.specs.Accounts.{has_account_name, name_in_row, name_of}
+
+abbrev name_read : NamedAccount → List ℕ
+name_read a = string_bytes a.name
 
 abbrev row_of : NamedAccount → AccountRow
 row_of a = account_row (string_bytes a.name) a.account
@@ -70,10 +79,58 @@ module _ (rows : List KeptAccount) (t : Tables) (told : AreToldAccounts rows t) 
       ∙ ap (λ n. (entries_of s n).account) own ∙ is) in
       subst (Has rows) (same_row as_told.0 x name account) as_told.1
 
+-- ---- their names
+
+-- each row is kept where any account is
+all_kept : (rows : List AccountRow) → filter is_any_account rows ≡ rows
+all_kept [] = refl
+all_kept (r ∷ rows) = ap (λ (rs : List AccountRow). r ∷ rs) (all_kept rows)
+
+row_names : (ordered : List AccountRow) (named : List NamedAccount)
+    → Pairs IsNamedAccount ordered named → map name_in_row ordered ≡ map name_read named
+row_names [] [] pairs = refl
+row_names [] (x ∷ named) pairs = absurd pairs
+row_names (r ∷ ordered) [] pairs = absurd pairs
+row_names (r ∷ ordered) (x ∷ named) pairs =
+    ap (λ n. n ∷ map name_in_row ordered) (ap name_in_row pairs.0)
+    ∙ ap (λ ns. name_read x ∷ ns) (row_names ordered named pairs.1)
+
+told_names : (t : Tables) (named : List NamedAccount) (rows : List KeptAccount)
+    → Pairs (IsToldAccount t) named rows → map name_read named ≡ map name_of rows
+told_names t [] [] pairs = refl
+told_names t [] (x ∷ rows) pairs = absurd pairs
+told_names t (n ∷ named) [] pairs = absurd pairs
+told_names t (n ∷ named) (x ∷ rows) pairs =
+    ap (λ m. m ∷ map name_read named) (sym pairs.0.0)
+    ∙ ap (λ ns. name_of x ∷ ns) (told_names t named rows pairs.1)
+
+-- they are the names of the table's rows
+same_names : (rows : List KeptAccount) (t : Tables) → AreToldAccounts rows t
+    → IsPermutation (map name_in_row (t Accounts)) (map name_of rows)
+same_names rows t told =
+    subst (λ ns. IsPermutation (map name_in_row (t Accounts)) ns)
+    (row_names told.are_named.ordered told.named told.are_named.pairs
+    ∙ told_names t told.named rows told.are_told)
+    (IsPermutation-map name_in_row (t Accounts) told.are_named.ordered
+    (subst (λ rs. IsPermutation rs told.are_named.ordered) (all_kept (t Accounts))
+    told.are_named.same))
+
+-- where all have the name of an account, each does
+each_named : (rows : List KeptAccount) → list_all has_account_name rows ≡ true → (x : KeptAccount)
+    → Has rows x → is_account_name x.name ≡ true
+each_named [] all x has = absurd has
+each_named (y ∷ rows) all x (inl is) =
+    ap has_account_name is ∙ (and_parts (has_account_name y) (list_all has_account_name rows) all).0
+each_named (y ∷ rows) all x (inr has) =
+    each_named rows (and_parts (has_account_name y) (list_all has_account_name rows) all).1 x has
+
 -- they are all accounts, by name
-pub knows_accounts : (rows : List KeptAccount) (t : Tables) → EachToLater IsAccountBefore rows
+pub knows_accounts : (rows : List KeptAccount) (t : Tables)
+    → list_all has_account_name rows ≡ true → EachToLater IsAccountBefore rows
     → AreToldAccounts rows t → KnowsAccounts rows t
-knows_accounts rows t rise told = record {
+knows_accounts rows t names rise told = record {
+  in_table = same_names rows t told;
+  names = each_named rows names;
   by_name = rise;
   all = λ s stands sound x. (told_is rows t told s stands x, is_told rows t told s stands x);
 }

@@ -1,16 +1,25 @@
 //! All accounts, as they are in force.
 
 ghost use Rattle.std.specs.Prelude.{◌≡◌, ◌++◌, ◌∷◌, [], OnOk};
+ghost use Rattle.std.specs.List.{list_all};
 ghost use Rattle.ftd_rules.specs.Lists.{are_in_order};
 ghost use Rattle.ftd_store.specs.Frame.{Reads};
 ghost use Rattle.ftd_entries.specs.Accounts.{AreToldAccounts, KnowsAccounts, is_account_before};
-ghost use Rattle.ftd_entries.specs.Accounts.{kept_account};
+ghost use Rattle.ftd_entries.specs.Accounts.{has_account_name, kept_account};
 
 use crate::known_account;
 use ftd_machine::{Account, AccountName, KeptAccount};
+use ftd_rules::is_account_name;
 use ftd_store::{StoreFault, Tx};
 use sqlite::Alter;
 use std::alloc::Global;
+
+/// Whether each has the name of an account.
+fn are_account_names(accounts: &[KeptAccount]) -> bool
+    ensures { result ≡ list_all has_account_name accounts.now }
+{
+    accounts.iter().all(|account| is_account_name(account.name.as_str().as_bytes()))
+}
 
 /// Whether an account comes before another one, by its name's bytes.
 fn is_account_before(account: &KeptAccount, next: &KeptAccount) -> bool
@@ -66,8 +75,9 @@ fn accounts_in_force<S: Alter>(
     Ok(rows)
 }
 
-/// All accounts as they are in force, by name. `Failed` also where one has no form, and where they
-/// do not go on by name.
+/// All accounts as they are in force, by name: those of the table's rows, whatever else the tables
+/// hold. `Failed` also where one has no form, where one has a name that is none of an account, and
+/// where they do not go on by name.
 pub fn all_accounts<S: Alter>(
     tx: &mut Tx<'_, S>,
     alloc: Global,
@@ -75,6 +85,9 @@ pub fn all_accounts<S: Alter>(
     ensures call { Reads S.Store tx.old tx.new result (λ rows. KnowsAccounts rows.items) }
 {
     let rows = accounts_in_force(tx, alloc)?;
+    if !are_account_names(&rows) {
+        return tx.give_up(StoreFault::Failed);
+    }
     if !are_accounts_in_order(&rows) {
         return tx.give_up(StoreFault::Failed);
     }
