@@ -100,7 +100,8 @@ sorted_those test key xs ys g h moved =
     (λ x has. (let from = has_filtered test ys x has in
     has_kept test xs x (has_permuted xs ys moved x from.0) from.1))
 
-filter_both : {X : Type 0} (f g : X → Bool) (xs : List X)
+-- one test after another is both
+pub filter_both : {X : Type 0} (f g : X → Bool) (xs : List X)
     → filter f (filter g xs) ≡ filter (λ x. g x && f x) xs
 filter_both f g [] = refl
 filter_both {X = X} f g (x ∷ xs) = step (g x) (filter_both f g xs)

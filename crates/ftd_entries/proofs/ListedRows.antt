@@ -2,16 +2,33 @@
 use Rattle.std.proofs.Common.{◌≡◌, Bool, true, List, [], ◌∷◌, map, inl, inr, refl, sym, ap, ◌∙◌}
 use Rattle.std.proofs.Common.{subst}
 use Rattle.std.specs.Prelude.{filter, string_bytes}
+use Rattle.std.proofs.lemmas.Bool.{cases_Bool}
 use Rattle.std.proofs.lemmas.List.Sorted.{IsPermutation-sym}
 use Rattle.ftd_rules.specs.Lists.{Has}
 use Rattle.ftd_rules.proofs.Rising.{has_permuted}
-use Rattle.ftd_rules.proofs.Members.{has_kept, has_mapped}
+use Rattle.ftd_rules.proofs.Members.{filter_in, filter_out, has_kept, has_mapped}
 use Rattle.ftd_sql.specs.Rows.{ObligationRow}
 use Rattle.ftd_store.specs.declared.obligation_cells.AccountObligation.{AccountObligation}
 use Rattle.ftd_store.specs.Lists.{Pairs, Lists}
 use Rattle.ftd_store.specs.Rows.{obligation_row}
 use Rattle.ftd_store.specs.Finds.{IsAccountObligation}
 use Rattle.ftd_machine.proofs.Members.{has_filtered}
+
+-- ---- tests
+
+-- what a test keeps of what is seen is seen of what it keeps
+pub kept_seen : {X Y : Type 0} (see : X → Y) (p : Y → Bool) (q : X → Bool)
+    → ((x : X) → p (see x) ≡ q x) → (xs : List X)
+    → filter p (map see xs) ≡ map see (filter q xs)
+kept_seen see p q same [] = refl
+kept_seen {X = X} {Y = Y} see p q same (x ∷ xs) =
+    let rest : filter p (map see xs) ≡ map see (filter q xs) = kept_seen see p q same xs in
+    elim (cases_Bool (q x)) [
+      | inl kept ↦ filter_in p (see x) (map see xs) (same x ∙ kept)
+          ∙ (ap (λ (l : List Y). see x ∷ l) rest ∙ sym (ap (map see) (filter_in q x xs kept)))
+      | inr left ↦ filter_out p (see x) (map see xs) (same x ∙ left)
+          ∙ (rest ∙ sym (ap (map see) (filter_out q x xs left)))
+    ]
 
 -- ---- values that each have their row
 

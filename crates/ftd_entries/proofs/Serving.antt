@@ -116,3 +116,13 @@ module _ {S : Type 0} {g : store.Ghosts S} (request : Request) where
   served_turned answer r w makes =
       always _ _ answer (served_turned_where Always request answer r w
       (λ t u s stands sound _. makes t u s stands sound))
+
+-- what was read says of the answer what it tells of the tables, whatever they stand for
+pub tells_by : {S A : Type 0} {g : store.Ghosts S} {old new : Tx S} {x : A}
+    {Fact : A → Tables → Type 0} (answer : Answer) (Says : Answer → Tables → Type 0)
+    → Reads g old new (Ok x) Fact → ((t : Tables) → Fact x t → Says answer t)
+    → Calls g old new (Ok answer) (λ said before after t. Says said t)
+tells_by {g = g} {old = old} {new = new} {x = x} answer Says r tells = record {
+  frame = goes_on g old new x answer r.frame;
+  does = λ clean t stands. tells t (r.does clean t stands).0;
+}

@@ -5,6 +5,7 @@ ghost use Rattle.std.specs.List.{sum_by};
 ghost use Rattle.ftd_days.specs.Calendar.{quarter_year};
 ghost use Rattle.ftd_rules.specs.Liability.{cents_of};
 ghost use Rattle.ftd_rules.specs.Payments.{payment_cents};
+ghost use Rattle.ftd_store.specs.Finds.{ListsPayments};
 ghost use Rattle.ftd_store.specs.Frame.{Reads};
 ghost use Rattle.ftd_entries.specs.Returns.{KnowsLiability, KnowsPayments, KnowsPreceding};
 ghost use Rattle.ftd_entries.specs.Returns.{KnowsPeriod};
@@ -77,8 +78,8 @@ fn liability_of<S: Alter>(
     }
 }
 
-/// The account's payments for the days that are not void. `Failed` also where they reach
-/// 60,000,000,000,000.00.
+/// The account's payments for the days that are not void, those of the table's rows. `Failed` also
+/// where they reach 60,000,000,000,000.00.
 pub fn payments_of<S: Alter>(
     tx: &mut Tx<'_, S>,
     alloc: Global,
@@ -88,6 +89,7 @@ pub fn payments_of<S: Alter>(
 ) -> Result<Vec<Payment>, StoreFault>
     ensures call { Reads S.Store tx.old tx.new result
         (λ payments. KnowsPayments name.now first last payments.items) }
+    ensures rows { Reads S.Store tx.old tx.new result (ListsPayments name.now first last) }
     ensures small { IfOk result (λ payments.
         sum_by payment_cents payments.items < AMOUNTS_END) }
 {

@@ -4,6 +4,7 @@ use Rattle.std.proofs.Common.{length, take, get_or, Option, None, Some, Ok, inl,
 use Rattle.std.specs.Prelude.{string_bytes}
 use Rattle.std.proofs.lemmas.Bool.{cases_lt, lt-ltb, le-ltb}
 use Rattle.ftd_days.specs.Calendar.{quarter_of}
+use Rattle.ftd_rules.specs.declared.Obligation.{Obligation}
 use Rattle.ftd_rules.specs.declared.verdict.DueRow.{DueRow}
 use Rattle.ftd_rules.specs.declared.verdict.Verdict.{Verdict}
 use Rattle.ftd_rules.specs.declared.verdict.Verdict.TheVariants.{Met, WithReturn, Open, MadeUp}
@@ -26,7 +27,7 @@ use Rattle.ftd_machine.specs.declared.facts.Facts.TheVariants.{Due}
 use Rattle.ftd_machine.specs.declared.replies.Reply.TheVariants.{Told}
 use Rattle.ftd_questions.specs.Agendas.{IsListOf, KnowsList, KnowsLast, IsLast, day_for, IsRowOf}
 use Rattle.ftd_questions.specs.Agendas.{AddsRow, KnowsLastYears, KnowsRow}
-use Rattle.ftd_questions.specs.Listing.{KnowsDue}
+use Rattle.ftd_questions.specs.Listing.{ListsDue}
 use Rattle.ftd_questions.specs.declared.agenda_rows.AccountList.{AccountList}
 use Rattle.ftd_questions.specs.declared.agenda_rows.QuarterList.{QuarterList}
 
@@ -77,7 +78,7 @@ row_is s as_of owed list x l r =
     list_is name (quarter_of owed.obligation.first) as_of list.rows.items l.due_list.listed
     l.due_list.told in
     let first : quarter_of owed.obligation.first ≡ quarter_of (first_day_of x) =
-    ap quarter_of (sym r.first) in
+    ap (λ (o : Obligation). quarter_of o.first) (sym r.obligation) in
     let is_row : IsDueRow (holidays s) (entries_of s name) l.due_list.rows
     (quarter_of owed.obligation.first) as_of x.row =
     (l.due_list.all x.row).0 (subst (λ rs. Has rs x.row) rows r.listed) in
@@ -108,7 +109,7 @@ pub row_known : (as_of : ℕ) (t : Tables) (owed : AccountObligation) (name : Li
     → IsRowOf owed list as_of x → KnowsRow as_of t owed x
 row_known as_of t owed name quarter list x named its knows r = record {
   account = r.account;
-  first = r.first;
+  obligation = r.obligation;
   is_row = λ s stands sound. row_is s as_of owed list x
       (subst (λ n. IsListOf s n (quarter_of owed.obligation.first) as_of list) named
       (subst (λ q. IsListOf s name q as_of list) its (knows s stands sound))) r;
@@ -120,7 +121,7 @@ row_known as_of t owed name quarter list x named its knows r = record {
 -- is known
 pub record SoFar (unpaid : Option ℕ) (from to as_of : ℕ) (listed done : List AccountObligation)
     (rows : List AgendaRow) (last : Option QuarterList) (t : Tables) : Type 0 where
-  pub lists : KnowsDue unpaid from to listed t
+  pub lists : ListsDue unpaid from to listed t
   pub are_rows : Pairs (KnowsRow as_of t) done rows
   pub last_is : KnowsLast as_of last t
   pub years_are : KnowsLastYears last t

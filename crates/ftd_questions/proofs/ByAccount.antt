@@ -1,17 +1,21 @@
 -- The obligations that are due on some days, read account by account.
 use Rattle.std.proofs.Common.{◌≡◌, ◌∙◌, inl, inr, refl, sym, ap, subst, ℕ, ◌+◌, ◌<◌, ◌≤◌, ◌++◌}
-use Rattle.std.proofs.Common.{zero, suc, true, false, List, [], ◌∷◌, length, take, get_or}
+use Rattle.std.proofs.Common.{true, false, List, [], ◌∷◌, length, take, get_or, map}
 use Rattle.std.proofs.Common.{Option, Some, arith}
 use Rattle.std.specs.Prelude.{filter, nat_le, string_bytes}
+use Rattle.std.specs.List.Sorted.{IsPermutation}
+use Rattle.std.proofs.lemmas.List.Sorted.{IsPermutation-refl}
 use Rattle.std.proofs.lemmas.List.{append-nil, append_assoc}
 use Rattle.std.proofs.lemmas.Bool.{leb-true, le-leb, and_parts}
 use Rattle.ftd_days.proofs.Spelling.{same_text}
 use Rattle.ftd_rules.specs.declared.Obligation.{Obligation}
+use Rattle.ftd_rules.specs.Accounts.{is_account_name}
 use Rattle.ftd_rules.specs.Lists.{Has}
 use Rattle.ftd_rules.specs.Obligations.{ByFirstDay}
 use Rattle.ftd_rules.proofs.Owed.{has_append, has_left, has_right}
 use Rattle.ftd_rules.proofs.Members.{has_mapped, mapped_has, has_kept}
 use Rattle.ftd_sql.specs.Standing.{Tables}
+use Rattle.ftd_sql.specs.declared.TableName.TheVariants.{Obligations}
 use Rattle.ftd_store.specs.Lists.{Pairs}
 use Rattle.ftd_store.specs.declared.obligation_cells.AccountObligation.{AccountObligation}
 use Rattle.ftd_store.proofs.Items.{has_at, has_more, has_now, has_still, paired_from, paired_to}
@@ -29,8 +33,10 @@ use Rattle.ftd_entries.specs.Standing.{StandsFor}
 use Rattle.ftd_entries.proofs.OwedRows.{kept_by_first_day}
 use Rattle.ftd_entries.specs.Accounts.{KnowsAccounts}
 use Rattle.ftd_questions.specs.Listing.{AddsDue, AreDue, AreOwn, HasOwed, IsOwedBefore, IsOwedBy}
-use Rattle.ftd_questions.specs.Listing.{IsUnpaidBy, KnowsDue, KnowsOwn, is_due_on}
+use Rattle.ftd_questions.specs.Listing.{IsUnpaidBy, ListsDue, ListsOwn, is_due_on, owed_row}
+use Rattle.ftd_questions.proofs.EachLater.{each_at}
 use Rattle.ftd_questions.proofs.OwedDays.{piece}
+use Rattle.ftd_questions.proofs.TablesDue.{all_rows, due_rows, is_due_among, more_rows, none_rows}
 
 -- ---- orders
 
@@ -44,16 +50,6 @@ each_append R (x ∷ xs) ys first second across = (
   ]),
   each_append R xs ys first.1 second (λ a b h k. across a b (inr h) k),
 )
-
--- each item before a place stands so to the one there
-each_at : {X : Type 0} (R : X → X → Type 0) (xs : List X) (i : ℕ) (x a : X) → EachToLater R xs
-    → i < length xs → x ≡ get_or xs i x → Has (take i xs) a → R a x
-each_at R [] i x a each some is has = absurd (omega arith)
-each_at R (y ∷ xs) zero x a each some is has = absurd has
-each_at R (y ∷ xs) (suc i) x a each some is (inl here) =
-    subst (λ b. R b x) (sym here) (each.0 x (has_at xs i x (omega arith) is))
-each_at R (y ∷ xs) (suc i) x a each some is (inr later) =
-    each_at R xs i x a each.1 (omega arith) is later
 
 -- obligations of one account, by first day
 own_in_order : (name : List ℕ) (os : List Obligation) (xs : List AccountObligation)
@@ -254,35 +250,79 @@ module _ (unpaid : Option ℕ) (from to : ℕ) (t : Tables) (s : State) (stands 
 
 -- ---- as far as a loop has come
 
--- these are all accounts, and the obligations of those before the place
+-- these are all accounts, and the obligations of those before the place, in the tables too
 pub record SoFarDue (unpaid : Option ℕ) (from to : ℕ) (accounts : List KeptAccount) (i : ℕ)
     (listed : List AccountObligation) (t : Tables) : Type 0 where
   pub known : KnowsAccounts accounts t
   pub due : (s : State) (stands : StandsFor t s) (sound : IsSound s)
       → AreDueOf unpaid from to t s stands sound (take i accounts) listed
+  pub rows : IsPermutation (filter (is_due_among unpaid from to t (take i accounts))
+      (t Obligations)) (map owed_row listed)
+  pub names : (x : AccountObligation) → Has listed x
+      → is_account_name (string_bytes x.account) ≡ true
+
+pub so_far_due_none : (unpaid : Option ℕ) (from to : ℕ) (accounts : List KeptAccount) (t : Tables)
+    → KnowsAccounts accounts t → SoFarDue unpaid from to accounts 0 [] t
+so_far_due_none unpaid from to accounts t known = record {
+  known = known;
+  due = λ s stands sound. of_none unpaid from to t s stands sound;
+  rows = subst (λ l. IsPermutation l []) (sym (none_rows unpaid from to t (t Obligations)))
+      (IsPermutation-refl []);
+  names = λ x has. absurd has;
+}
+
+-- those that were added have the name of the account
+names_more : (from to : ℕ) (name : List ℕ) (found : List Obligation)
+    (listed more : List AccountObligation)
+    → Pairs (IsOwedBy name) (filter (is_due_on from to) found) more → is_account_name name ≡ true
+    → ((x : AccountObligation) → Has listed x → is_account_name (string_bytes x.account) ≡ true)
+    → (x : AccountObligation) → Has (listed ++ more) x
+    → is_account_name (string_bytes x.account) ≡ true
+names_more from to name found listed more pairs its so_far x has =
+    elim (has_append listed more x has) [
+      | inl before ↦ so_far x before
+      | inr new ↦ ap is_account_name (paired_from (IsOwedBy name)
+          (filter (is_due_on from to) found) more x pairs new).2.0 ∙ its
+    ]
 
 pub so_far_due_more : (unpaid : Option ℕ) (from to : ℕ) (accounts : List KeptAccount) (i : ℕ)
     (a : KeptAccount) (name : List ℕ) (given found : List Obligation)
     (listed after : List AccountObligation) (t : Tables) → i < length accounts
     → a ≡ get_or accounts i a → name ≡ a.name → given ≡ found
     → AddsDue from to name given listed after → SoFarDue unpaid from to accounts i listed t
-    → KnowsOwn unpaid from to name found t → SoFarDue unpaid from to accounts (i + 1) after t
+    → ListsOwn unpaid from to name found t → SoFarDue unpaid from to accounts (i + 1) after t
 so_far_due_more unpaid from to accounts i a name given found listed after t some is named its adds
-    so_far knows = record {
+    so_far own =
+    let added : AddsDue from to a.name found listed after =
+    subst (λ n. AddsDue from to n found listed after) named
+    (subst (λ os. AddsDue from to name os listed after) its adds) in
+    let listed_own : ListsOwn unpaid from to a.name found t =
+    subst (λ n. ListsOwn unpaid from to n found t) named own in
+    record {
       known = so_far.known;
       due = λ s stands sound. of_more_accounts unpaid from to t s stands sound accounts
-          so_far.known.by_name i a some is found
-          (subst (λ n. AreOwn unpaid from to s n (stands.settled n).owed found) named
-          (knows s stands sound)) listed after
-          (subst (λ n. AddsDue from to n found listed after) named
-          (subst (λ os. AddsDue from to name os listed after) its adds))
-          (so_far.due s stands sound);
+          so_far.known.by_name i a some is found (listed_own.known s stands sound) listed after
+          added (so_far.due s stands sound);
+      rows = subst (λ l. IsPermutation
+          (filter (is_due_among unpaid from to t (take (i + 1) accounts)) (t Obligations))
+          (map owed_row l)) (sym added.2) (more_rows unpaid from to t accounts
+          so_far.known.by_name i a some is listed added.0 so_far.rows
+          (due_rows a.name from to t unpaid found added.0 listed_own.rows added.1));
+      names = subst (λ l. (x : AccountObligation) → Has l x
+          → is_account_name (string_bytes x.account) ≡ true) (sym added.2)
+          (names_more from to a.name found listed added.0 added.1
+          (so_far.known.names a (has_at accounts i a some is)) so_far.names);
     }
 
 pub due_known_all : (unpaid : Option ℕ) (from to : ℕ) (accounts : List KeptAccount) (i : ℕ)
     (listed : List AccountObligation) (t : Tables) → length accounts ≤ i
-    → SoFarDue unpaid from to accounts i listed t → KnowsDue unpaid from to listed t
-due_known_all unpaid from to accounts i listed t all so_far s stands sound =
-    of_all unpaid from to t s stands sound accounts listed so_far.known
-    (subst (λ xs. AreDueOf unpaid from to t s stands sound xs listed)
-    (all_taken accounts i all) (so_far.due s stands sound))
+    → SoFarDue unpaid from to accounts i listed t → ListsDue unpaid from to listed t
+due_known_all unpaid from to accounts i listed t all so_far = record {
+  known = λ s stands sound. of_all unpaid from to t s stands sound accounts listed so_far.known
+      (subst (λ xs. AreDueOf unpaid from to t s stands sound xs listed)
+      (all_taken accounts i all) (so_far.due s stands sound));
+  rows = all_rows unpaid from to t accounts listed so_far.known
+      (subst (λ xs. IsPermutation (filter (is_due_among unpaid from to t xs) (t Obligations))
+      (map owed_row listed)) (all_taken accounts i all) so_far.rows);
+  names = so_far.names;
+}

@@ -61,11 +61,15 @@ ties_so x y e =
     rw (tie_of (due_date_of x) (due_date_of y) e, tie_of (due_date_of y) (due_date_of x) (sym e))
     refl
 
+pub due_dates_up : (ys : List AgendaRow) → IsNonDecreasingBy due_date_of ys
+    → KeysDoNotFall due_date_of ys
+due_dates_up ys up =
+    next_do_not_fall due_date_of ys (λ k d low. up k (k + 1) d (omega arith) low)
+
 pub rows_in_order : (xs ys : List AgendaRow) → IsNonDecreasingBy due_date_of ys
     → IsStableByKey due_date_of nat_cmp xs ys → EachToLater IsOwnBefore xs
     → EachToLater ComesBefore ys
 rows_in_order xs ys up stable each =
     then_by due_date_of IsOwnBefore (ties is_less) ties_so ys
-    (next_do_not_fall due_date_of ys (λ k d low. up k (k + 1) d (omega arith) low))
-    (λ x. subst (EachToLater IsOwnBefore) (sym (stable x))
+    (due_dates_up ys up) (λ x. subst (EachToLater IsOwnBefore) (sym (stable x))
     (later_those IsOwnBefore (ties is_less x) xs each))

@@ -15,5 +15,7 @@ mod AgendaRows
 mod ByDueDate
 mod DueYears
 mod OwnDue
+mod EachLater
+mod TablesDue
 mod ByAccount
 mod AgendaTold

@@ -1,8 +1,9 @@
 -- What was read of an account is what it owes that may be due on some days.
 use Rattle.std.proofs.Common.{◌≡◌, ◌∙◌, refl, sym, subst, ℕ, ◌+◌, ◌-◌, ◌<◌, ◌≤◌, ◌++◌, Bool, true}
 use Rattle.std.proofs.Common.{false, List, [], ◌∷◌, length, take, get_or, ap, Option, None, Some}
-use Rattle.std.proofs.Common.{arith}
+use Rattle.std.proofs.Common.{Vec, map, arith}
 use Rattle.std.specs.Prelude.{filter, nat_le}
+use Rattle.std.specs.List.Sorted.{IsPermutation}
 use Rattle.std.proofs.lemmas.Bool.{le-leb, lt-ltb, ltb-true}
 use Rattle.std.proofs.lemmas.List.{append-nil}
 use Rattle.std.proofs.lemmas.List.Elements.{filter-append}
@@ -14,20 +15,27 @@ use Rattle.ftd_rules.specs.Obligations.{ByFirstDay, begins_on}
 use Rattle.ftd_rules.specs.Payments.{paid_by}
 use Rattle.ftd_rules.proofs.DueDates.{due_later}
 use Rattle.ftd_rules.proofs.Members.{has_kept}
+use Rattle.ftd_sql.specs.Orders.{ObligationsRise, PaymentsRise}
 use Rattle.ftd_sql.specs.Standing.{Tables}
+use Rattle.ftd_sql.specs.Tests.{is_live_payment_between}
+use Rattle.ftd_sql.specs.declared.TableName.TheVariants.{Obligations, Payments}
+use Rattle.ftd_store.specs.Cells.{day_number}
+use Rattle.ftd_store.specs.Finds.{IsLivePayment, IsObligation, ListsObligations, ListsPayments}
+use Rattle.ftd_store.specs.Lists.{Lists}
+use Rattle.ftd_store.specs.Rows.{obligation_row}
 use Rattle.ftd_store.proofs.Items.{taken}
 use Rattle.ftd_machine.specs.History.{form_of, live_sums}
 use Rattle.ftd_machine.specs.Sound.{IsSound}
 use Rattle.ftd_machine.specs.State.{State, entries_of, holidays}
 use Rattle.ftd_machine.proofs.Few.{few_in_force}
 use Rattle.ftd_machine.proofs.Members.{has_filtered}
-use Rattle.ftd_entries.specs.Owed.{KnowsObligations}
 use Rattle.ftd_entries.specs.Standing.{StandsFor}
-use Rattle.ftd_entries.proofs.OwedRows.{kept_by_first_day}
-use Rattle.ftd_questions.specs.Listing.{AreOwn, KnowsOwn, is_unpaid}
+use Rattle.ftd_entries.proofs.OwedRows.{begins, kept_by_first_day, obligations_known}
+use Rattle.ftd_questions.specs.Listing.{AreOwn, ListsOwn, is_own, is_unpaid}
 use Rattle.ftd_entries.specs.Returns.{KnowsPayments}
 use Rattle.ftd_questions.proofs.DueYears.{begins_late}
 use Rattle.ftd_questions.proofs.OwedDays.{period_days, piece, some_days}
+use Rattle.ftd_questions.proofs.TablesDue.{own_left_rows, own_rows}
 
 -- one item more that a test keeps, or one that it leaves
 module _ {X : Type 0} (p : X → Bool) (xs : List X) (i : ℕ) (x : X) (some : i < length xs)
@@ -78,19 +86,19 @@ module _ (from to : ℕ) (name : List ℕ) (t : Tables) (s : State) (stands : St
 
   module _ (found : List Obligation)
       (are_found : found ≡ filter (begins_on (year_start (year_of from - 1)) to) owed) where
-    abbrev begins : Obligation → Bool
-    begins = begins_on (year_start (year_of from - 1)) to
+    abbrev is_begun : Obligation → Bool
+    is_begun = begins_on (year_start (year_of from - 1)) to
 
     of_found : (o : Obligation) → Has found o → Has owed o
-    of_found o has = (has_filtered begins owed o (subst (λ os. Has os o) are_found has)).0
+    of_found o has = (has_filtered is_begun owed o (subst (λ os. Has os o) are_found has)).0
 
     to_found : (o : Obligation) → Has owed o → from ≤ o.due → o.due ≤ to → Has found o
     to_found o has since until = subst (λ os. Has os o) (sym are_found)
-        (has_kept begins owed o has (begins_due o has since until))
+        (has_kept is_begun owed o has (begins_due o has since until))
 
     in_order : ByFirstDay found
     in_order = subst ByFirstDay (sym are_found)
-        (kept_by_first_day begins owed (stands.settled name).are_owed.by_first_day)
+        (kept_by_first_day is_begun owed (stands.settled name).are_owed.by_first_day)
 
     all_own : AreOwn None from to s name owed found
     all_own = record {
@@ -123,26 +131,46 @@ is_none : (unpaid : Option ℕ) → ((day : ℕ) → unpaid ≡ Some day → ⊥
 is_none None never = refl
 is_none (Some day) never = absurd (never day refl)
 
-pub own_read : (unpaid : Option ℕ) (from to : ℕ) (name : List ℕ) (first : ℕ)
-    (found : List Obligation) (t : Tables) → ((day : ℕ) → unpaid ≡ Some day → ⊥)
-    → first ≡ year_start (year_of from - 1) → KnowsObligations name first to found t
-    → KnowsOwn unpaid from to name found t
-own_read unpaid from to name first found t never start knows s stands sound =
-    subst (λ u. AreOwn u from to s name (stands.settled name).owed found)
-    (sym (is_none unpaid never))
-    (all_own from to name t s stands sound found
-    (subst (λ f. found ≡ filter (begins_on f to) (stands.settled name).owed) start
-    (knows s stands)))
+pub own_read : {A : Type 0} (unpaid : Option ℕ) (from to : ℕ) (name : List ℕ) (first : ℕ)
+    (found : Vec Obligation A) (t : Tables) → ((day : ℕ) → unpaid ≡ Some day → ⊥)
+    → first ≡ year_start (year_of from - 1) → ListsObligations name first to found t
+    → ListsOwn unpaid from to name found.items t
+own_read unpaid from to name first found t never start lists = record {
+  known = λ s stands sound.
+      subst (λ u. AreOwn u from to s name (stands.settled name).owed found.items)
+      (sym (is_none unpaid never))
+      (all_own from to name t s stands sound found.items
+      (subst (λ f. found.items ≡ filter (begins_on f to) (stands.settled name).owed) start
+      (obligations_known name first to found t lists s stands)));
+  rows = subst (λ u. IsPermutation (filter (is_own u from to t name) (t Obligations))
+      (map (obligation_row name) found.items)) (sym (is_none unpaid never))
+      (own_rows name from to t found.items (subst (λ f. Lists ObligationsRise (IsObligation name)
+      (filter (begins name f to) (t Obligations)) found.items) start lists));
+}
 
-pub own_unpaid : (unpaid : Option ℕ) (from to : ℕ) (name : List ℕ) (first lowest as_of : ℕ)
-    (found left : List Obligation) (payments : List Payment) (t : Tables)
-    → unpaid ≡ Some as_of → first ≡ year_start (year_of from - 1) → lowest ≡ 0
-    → left ≡ filter (is_unpaid payments as_of) found → KnowsObligations name first to found t
-    → KnowsPayments name lowest to payments t → KnowsOwn unpaid from to name left t
+pub own_unpaid : {A B : Type 0} (unpaid : Option ℕ) (from to : ℕ) (name : List ℕ)
+    (first lowest as_of : ℕ) (found : Vec Obligation A) (left : List Obligation)
+    (payments : Vec Payment B) (t : Tables) → unpaid ≡ Some as_of
+    → first ≡ year_start (year_of from - 1) → lowest ≡ 0
+    → left ≡ filter (is_unpaid payments.items as_of) found.items
+    → ListsObligations name first to found t → KnowsPayments name lowest to payments.items t
+    → ListsPayments name lowest to payments t → ListsOwn unpaid from to name left t
 own_unpaid unpaid from to name first lowest as_of found left payments t asked start zero_is left_is
-    knows counts s stands sound =
-    subst (λ u. AreOwn u from to s name (stands.settled name).owed left) (sym asked)
-    (subst (AreOwn (Some as_of) from to s name (stands.settled name).owed) (sym left_is)
-    (unpaid_own from to name t s stands sound found
-    (subst (λ f. found ≡ filter (begins_on f to) (stands.settled name).owed) start (knows s stands))
-    payments as_of (subst (λ z. KnowsPayments name z to payments t) zero_is counts)))
+    lists counts paid = record {
+      known = λ s stands sound.
+          subst (λ u. AreOwn u from to s name (stands.settled name).owed left) (sym asked)
+          (subst (AreOwn (Some as_of) from to s name (stands.settled name).owed) (sym left_is)
+          (unpaid_own from to name t s stands sound found.items
+          (subst (λ f. found.items ≡ filter (begins_on f to) (stands.settled name).owed) start
+          (obligations_known name first to found t lists s stands))
+          payments.items as_of
+          (subst (λ z. KnowsPayments name z to payments.items t) zero_is counts)));
+      rows = subst (λ u. IsPermutation (filter (is_own u from to t name) (t Obligations))
+          (map (obligation_row name) left)) (sym asked)
+          (own_left_rows name from to t as_of payments.items
+          (subst (λ z. Lists PaymentsRise (IsLivePayment name)
+          (filter (is_live_payment_between name (day_number z) (day_number to)) (t Payments))
+          payments.items) zero_is paid) found.items left left_is
+          (subst (λ f. Lists ObligationsRise (IsObligation name)
+          (filter (begins name f to) (t Obligations)) found.items) start lists));
+    }

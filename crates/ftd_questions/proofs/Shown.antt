@@ -1,7 +1,6 @@
 -- The rows of a due list beside those of the tables, whatever else these hold.
 use Rattle.std.proofs.Common.{◌≡◌, ℕ, ◌+◌, ◌-◌, ◌*◌, ◌/◌, ◌≤◌, ◌<◌, inl, inr, List, [], ◌∷◌, map}
 use Rattle.std.proofs.Common.{Bool, true, false, Option, Some, None, Ok, Err}
-use Rattle.sqlite.specs.Store as store
 use Rattle.std.proofs.Common.{◌&&◌, refl, sym, ap, ◌∙◌, subst, arith}
 use Rattle.std.specs.Prelude.{filter, nat_le, int_le, bytes_eq}
 use Rattle.std.proofs.lemmas.Int.{ints}
@@ -27,9 +26,6 @@ use Rattle.ftd_store.specs.Cells.{day_number}
 use Rattle.ftd_store.specs.Lists.{Pairs, Lists}
 use Rattle.ftd_store.specs.Rows.{obligation_row}
 use Rattle.ftd_store.specs.Finds.{IsObligation}
-use Rattle.ftd_store.specs.Frame.{Calls, Reads}
-use Rattle.ftd_store.specs.declared.tx.Tx.{Tx}
-use Rattle.ftd_store.proofs.Going.{goes_on}
 use Rattle.ftd_store.proofs.Sifted.{sifted}
 use Rattle.ftd_machine.specs.Asking.{return_period, first_of_row}
 use Rattle.ftd_machine.specs.Checks.{Answer, first_of, needs, finds}
@@ -44,13 +40,12 @@ use Rattle.ftd_rules.specs.Obligations.{begins_on}
 use Rattle.ftd_machine.specs.declared.facts.DueList.{DueList}
 use Rattle.ftd_machine.specs.declared.facts.Facts.TheVariants.{Due}
 use Rattle.ftd_machine.specs.declared.replies.Reply.TheVariants.{Told}
-use Rattle.ftd_machine.specs.declared.requests.Question.{Question}
 use Rattle.ftd_machine.proofs.Members.{has_filtered}
 use Rattle.ftd_machine.proofs.Refusing.{Refuses, refuses_none, refuses_needs, refuses_finds}
 use Rattle.ftd_entries.proofs.CalendarRows.{key_rises}
 use Rattle.ftd_entries.proofs.DayCells.{le_from, le_into}
 use Rattle.ftd_questions.specs.DueRows.{begins_in, IsRowBy}
-use Rattle.ftd_questions.specs.Shown.{row_shown, Shows, ShowsRows}
+use Rattle.ftd_questions.specs.Shown.{row_shown, ShowsRows}
 use Rattle.ftd_questions.specs.declared.due.KnownForDue.{KnownForDue}
 use Rattle.ftd_questions.specs.declared.due_rows.QuarterReturn.{QuarterReturn}
 use Rattle.ftd_questions.proofs.OwedDays.{filter_same, quarter_begins}
@@ -365,13 +360,3 @@ unknown_refused name quarter as_of known unknown none =
 -- the list that was told
 pub told_list : (list other : DueList) → due_of list ≡ due_of other → list ≡ other
 told_list list other e = cc
-
--- what was read shows that the answer does
-pub shown_by : {S A : Type 0} (g : store.Ghosts S) (old new : Tx S) (x : A) (answer : Answer)
-    (question : Question) (Fact : A → Tables → Type 0) → Reads g old new (Ok x) Fact
-    → ((t : Tables) → Fact x t → Shows question answer t)
-    → Calls g old new (Ok answer) (λ said before after t. Shows question said t)
-shown_by g old new x answer question Fact r tells = record {
-  frame = goes_on g old new x answer r.frame;
-  does = λ clean t stands. tells t (r.does clean t stands).0;
-}

@@ -1,5 +1,5 @@
 -- What is known of the rows of an agenda, by what the tables have.
-use Rattle.std.specs.Prelude.{◌≡◌, ◌++◌, ℕ, List, [], ◌∷◌, Option, None, Some, Ok, ⊤}
+use Rattle.std.specs.Prelude.{◌≡◌, ◌++◌, ℕ, List, [], ◌∷◌, Option, None, Some, ⊤}
 use Rattle.std.specs.Prelude.{string_bytes, nat_lt, if◌then◌else◌}
 use Rattle.ftd_days.specs.Calendar.{quarter_of}
 use Rattle.ftd_rules.specs.declared.verdict.DueRow.{DueRow}
@@ -20,7 +20,7 @@ use Rattle.ftd_machine.specs.declared.lists.AgendaRow.{AgendaRow}
 use Rattle.ftd_machine.specs.Told.{due_answer}
 use Rattle.ftd_entries.specs.Standing.{StandsFor}
 use Rattle.ftd_questions.specs.DueRows.{KnowsYears}
-use Rattle.ftd_questions.specs.Listing.{KnowsDue}
+use Rattle.ftd_questions.specs.Listing.{ListsDue}
 use Rattle.ftd_questions.specs.declared.agenda_rows.AccountList.{AccountList}
 use Rattle.ftd_questions.specs.declared.agenda_rows.QuarterList.{QuarterList}
 
@@ -76,7 +76,7 @@ pub record IsRowOf (owed : AccountObligation) (list : AccountList) (as_of : ℕ)
   pub account : x.account ≡ string_bytes owed.account
   pub form_is : x.form ≡ list.form
   pub listed : Has list.rows.items x.row
-  pub first : x.row.obligation.first ≡ owed.obligation.first
+  pub obligation : x.row.obligation ≡ owed.obligation
   pub pay_by : x.pay_by ≡ day_for x.row.verdict x.row list as_of
 
 -- it was added to the rows
@@ -86,12 +86,11 @@ AddsRow owed None as_of before after = ⊥
 AddsRow owed (Some last) as_of before after =
     (x : AgendaRow) × IsRowOf owed last.list as_of x × (after ≡ before ++ x ∷ [])
 
--- it is the row of the obligation's account and first day, in each sound state for which the tables
--- stand
+-- it is the row of the account's obligation; so in each sound state for which the tables stand
 pub record KnowsRow (as_of : ℕ) (t : Tables) (owed : AccountObligation) (x : AgendaRow)
     : Type 0 where
   pub account : x.account ≡ string_bytes owed.account
-  pub first : x.row.obligation.first ≡ owed.obligation.first
+  pub obligation : x.row.obligation ≡ owed.obligation
   pub is_row : (s : State) → StandsFor t s → IsSound s → IsAgendaRow s as_of x
 
 -- ---- the rows
@@ -101,5 +100,5 @@ pub record KnowsRow (as_of : ℕ) (t : Tables) (owed : AccountObligation) (x : A
 pub record KnowsRowsDue (unpaid : Option ℕ) (from to as_of : ℕ) (rows : List AgendaRow) (t : Tables)
     : Type 0 where
   pub owed : List AccountObligation
-  pub listed : KnowsDue unpaid from to owed t
+  pub listed : ListsDue unpaid from to owed t
   pub are_rows : Pairs (KnowsRow as_of t) owed rows

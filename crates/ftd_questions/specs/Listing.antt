@@ -1,13 +1,24 @@
 -- The obligations of all accounts that are due on some days.
-use Rattle.std.specs.Prelude.{◌≡◌, ◌⊎◌, ◌≤◌, ◌<◌, ◌↔◌, ◌&&◌, ◌++◌, ℕ, Bool, nat_le, nat_lt, List}
+use Rattle.std.specs.Prelude.{◌≡◌, ◌⊎◌, ◌≤◌, ◌<◌, ◌↔◌, ◌&&◌, ◌||◌, ◌++◌, ◌-◌, ℕ, ℤ, pos, Bool, true}
+use Rattle.std.specs.Prelude.{nat_le, nat_lt, int_lt, nat_abs, if◌then◌else◌, List, map}
 use Rattle.std.specs.Prelude.{Option, None, Some, ⊤, filter, string_bytes}
+use Rattle.std.specs.List.{list_any, sum_by}
+use Rattle.std.specs.List.Sorted.{IsPermutation}
+use Rattle.ftd_days.specs.Calendar.{year_of, year_start}
+use Rattle.ftd_rules.specs.Accounts.{is_account_name}
 use Rattle.ftd_rules.specs.declared.Obligation.{Obligation}
 use Rattle.ftd_rules.specs.declared.payment.Payment.{Payment}
 use Rattle.ftd_rules.specs.Lists.{Has}
 use Rattle.ftd_rules.specs.Obligations.{ByFirstDay}
 use Rattle.ftd_rules.specs.Payments.{paid_by}
+use Rattle.ftd_sql.specs.Rows.{ObligationRow, PaymentRow}
 use Rattle.ftd_sql.specs.Standing.{Tables}
+use Rattle.ftd_sql.specs.Tests.{is_account, is_due_between, is_live_payment_between}
+use Rattle.ftd_sql.specs.Tests.{is_obligation_between}
+use Rattle.ftd_sql.specs.declared.TableName.TheVariants.{Accounts, Obligations, Payments}
+use Rattle.ftd_store.specs.Cells.{day_number}
 use Rattle.ftd_store.specs.Lists.{Pairs}
+use Rattle.ftd_store.specs.Rows.{obligation_row}
 use Rattle.ftd_store.specs.declared.obligation_cells.AccountObligation.{AccountObligation}
 use Rattle.ftd_machine.specs.History.{live_payments}
 use Rattle.ftd_machine.specs.State.{State, entries_of}
@@ -82,3 +93,65 @@ abbrev pub KnowsOwn : Option ℕ → ℕ → ℕ → List ℕ → List Obligatio
 KnowsOwn unpaid from to name found t =
     (s : State) (stands : StandsFor t s) → IsSound s
     → AreOwn unpaid from to s name (stands.settled name).owed found
+
+-- ---- the rows of the tables, whatever else these hold
+
+-- what a payment of the table counts for the obligation of a row by a day, in cents: its amount
+-- where it is for one of its days and was made by the day, and else nothing
+abbrev pub counts_for : ObligationRow → ℤ → PaymentRow → ℕ
+counts_for r by p =
+    if int_lt p.for_day r.first || int_lt r.last p.for_day || int_lt by p.paid then 0
+    else nat_abs p.cents
+
+-- what the live payments of its account count for it by a day, those for days until another
+abbrev pub paid_in : ℕ → ℕ → Tables → ObligationRow → ℕ
+paid_in by until t r =
+    sum_by (counts_for r (day_number by))
+    (filter (is_live_payment_between r.account (day_number 0) (day_number until)) (t Payments))
+
+-- where a day is given, they do not reach its amount as of the day
+abbrev pub is_left : Option ℕ → ℕ → Tables → ObligationRow → Bool
+is_left None until t r = true
+is_left (Some as_of) until t r = int_lt (pos (paid_in as_of until t r)) r.cents
+
+-- an obligation of the account that begins in the year before a day or later, not after another
+-- one, and is left
+abbrev pub is_own : Option ℕ → ℕ → ℕ → Tables → List ℕ → ObligationRow → Bool
+is_own unpaid from to t name r =
+    is_obligation_between name (day_number (year_start (year_of from - 1))) (day_number to) r
+    && is_left unpaid to t r
+
+-- it is due on one of the days too
+abbrev pub is_own_due : Option ℕ → ℕ → ℕ → Tables → List ℕ → ObligationRow → Bool
+is_own_due unpaid from to t name r =
+    is_own unpaid from to t name r && is_due_between (day_number from) (day_number to) r
+
+-- one of the accounts of the table has the name
+abbrev pub has_account : Tables → List ℕ → Bool
+has_account t name = list_any (is_account name) (t Accounts)
+
+-- such an obligation of one of the accounts of the table
+abbrev pub is_due_in : Option ℕ → ℕ → ℕ → Tables → ObligationRow → Bool
+is_due_in unpaid from to t r =
+    has_account t r.account && is_own_due unpaid from to t r.account r
+
+-- the row of an obligation and its account
+abbrev pub owed_row : AccountObligation → ObligationRow
+owed_row x = obligation_row (string_bytes x.account) x.obligation
+
+-- these are obligations that the account owes and has left, and exactly the rows of such, each once
+pub record ListsOwn (unpaid : Option ℕ) (from to : ℕ) (name : List ℕ) (found : List Obligation)
+    (t : Tables) : Type 0 where
+  pub known : KnowsOwn unpaid from to name found t
+  pub rows : IsPermutation (filter (is_own unpaid from to t name) (t Obligations))
+      (map (obligation_row name) found)
+
+-- these are exactly such obligations of the accounts of the table, each once, and each name is the
+-- name of an account
+pub record ListsDue (unpaid : Option ℕ) (from to : ℕ) (listed : List AccountObligation) (t : Tables)
+    : Type 0 where
+  pub known : KnowsDue unpaid from to listed t
+  pub rows : IsPermutation (filter (is_due_in unpaid from to t) (t Obligations))
+      (map owed_row listed)
+  pub names : (x : AccountObligation) → Has listed x
+      → is_account_name (string_bytes x.account) ≡ true

@@ -18,7 +18,7 @@ use ftd_days::{Day, FIRST_YEAR, Holidays, LAST_OPEN_YEAR, Quarter};
 use ftd_entries::known_account;
 use ftd_machine::{Account, AccountName, AgendaRow};
 use ftd_rules::period::return_period;
-use ftd_rules::{DueRow, Form, Verdict};
+use ftd_rules::{DueRow, Form, Obligation, Verdict};
 use ftd_store::{AccountObligation, StoreFault, Tx};
 use sqlite::Alter;
 use std::alloc::Global;
@@ -47,12 +47,12 @@ pub(crate) struct QuarterList {
     pub holidays: Holidays,
 }
 
-/// The row of the obligation with this first day.
-fn row_from(rows: &[DueRow], first: Day) -> Option<DueRow>
-    ensures { IfSome result (λ row. Has rows.now row × (row.obligation.first ≡ first)) }
+/// The row of the obligation.
+fn row_from(rows: &[DueRow], obligation: &Obligation) -> Option<DueRow>
+    ensures { IfSome result (λ row. Has rows.now row × (row.obligation ≡ obligation.now)) }
 {
     for row in rows {
-        if row.obligation.first == first {
+        if row.obligation == *obligation {
             return Some(*row);
         }
     }
@@ -197,7 +197,7 @@ fn agenda_row(
 ) -> Result<AgendaRow, StoreFault>
     ensures { IfOk result (λ row. IsRowOf owed.now list.now as_of row) }
 {
-    let Some(row) = row_from(&list.rows, owed.obligation.first) else {
+    let Some(row) = row_from(&list.rows, &owed.obligation) else {
         return Err(StoreFault::Failed);
     };
     let account = String::from_str(alloc, &owed.account)?;

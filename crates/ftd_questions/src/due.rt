@@ -7,7 +7,7 @@ ghost use Rattle.ftd_machine.specs.declared.requests.Question.TheVariants as que
 ghost use Rattle.ftd_machine.specs.declared.requests.Request.TheVariants.{Question};
 ghost use Rattle.ftd_entries.specs.Words.{Serves};
 ghost use Rattle.ftd_questions.specs.DueRows.{KnowsForDue, KnowsYears};
-ghost use Rattle.ftd_questions.specs.Shown.{KnowsQuarter, Shows};
+ghost use Rattle.ftd_questions.specs.Shown.{KnowsQuarter, ShowsList};
 
 use crate::due_rows::{due_rows, has_next_day, quarter_return};
 use ftd_days::{Day, FIRST_YEAR, Holidays, LAST_OPEN_YEAR, Quarter};
@@ -97,7 +97,7 @@ pub fn due_list<S: Alter>(
     ensures call { Calls S.Store tx.old tx.new result
         (Serves (Question (questions.DueList name.now quarter as_of))) }
     ensures shows { Calls S.Store tx.old tx.new result (λ answer before after t.
-        Shows (questions.DueList name.now quarter as_of) answer t) }
+        ShowsList name.now quarter answer t) }
 {
     let Ok(owner) = AccountName::copy_of(alloc, name) else {
         return tx.give_up(StoreFault::Memory);

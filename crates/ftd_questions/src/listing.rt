@@ -7,7 +7,7 @@ ghost use Rattle.std.specs.List.{sum_by};
 ghost use Rattle.ftd_days.specs.Calendar.{year_of, year_start};
 ghost use Rattle.ftd_rules.specs.Payments.{payment_cents};
 ghost use Rattle.ftd_store.specs.Frame.{Reads};
-ghost use Rattle.ftd_questions.specs.Listing.{AddsDue, KnowsDue, KnowsOwn, is_due_on, is_unpaid};
+ghost use Rattle.ftd_questions.specs.Listing.{AddsDue, ListsDue, ListsOwn, is_due_on, is_unpaid};
 
 use ftd_days::Day;
 use ftd_entries::{all_accounts, payments_of};
@@ -66,7 +66,7 @@ fn own_due<S: Alter>(
     unpaid: &Option<Day>,
 ) -> Result<Vec<Obligation>, StoreFault>
     ensures call { Reads S.Store tx.old tx.new result
-        (λ owed. KnowsOwn unpaid.now from to name.now owed.items) }
+        (λ owed. ListsOwn unpaid.now from to name.now owed.items) }
 {
     let owed = tx.obligations(alloc, name, year_before(from), to)?;
     let Some(as_of) = *unpaid else {
@@ -121,7 +121,7 @@ pub(crate) fn due_between<S: Alter>(
     unpaid: Option<Day>,
 ) -> Result<Vec<AccountObligation>, StoreFault>
     ensures call { Reads S.Store tx.old tx.new result
-        (λ listed. KnowsDue unpaid from to listed.items) }
+        (λ listed. ListsDue unpaid from to listed.items) }
 {
     let accounts = all_accounts(tx, alloc)?;
     let mut listed: Vec<AccountObligation> = Vec::new(alloc);

@@ -7,7 +7,7 @@ use Rattle.ftd_store.proofs.Replaced.{all_taken}
 use Rattle.ftd_store.proofs.Telling.{reads_on, then_reads}
 use Rattle.ftd_store.proofs.Turning.{gave_up_after}
 use Rattle.ftd_questions.specs.Agendas.{KnowsLast, KnowsLastYears, IsLast, KnowsRow}
-use Rattle.ftd_questions.specs.Listing.{KnowsDue}
+use Rattle.ftd_questions.specs.Listing.{ListsDue}
 use Rattle.ftd_questions.proofs.AgendaRows.{so_far_more}
 use Rattle.ftd_questions.proofs.agenda_rows.rows_due.Goals.{then-not-is_last+in_ok-last}
 use Rattle.ftd_questions.proofs.agenda_rows.rows_due.Goals.{else-not-is_last}
@@ -16,7 +16,7 @@ use Rattle.ftd_questions.proofs.agenda_rows.rows_due.Goals as goal
 pub loop-owed-init : goal.loop-owed-init
 loop-owed-init g c = rw c.new-rows.ensures.items
     (reads_on tt _ c.in_ok-listed.ensures.call (λ t lists. record {
-      lists = subst (λ xs. KnowsDue c.args.unpaid c.args.from c.args.to xs t)
+      lists = subst (λ xs. ListsDue c.args.unpaid c.args.from c.args.to xs t)
           (sym c.deref-owed-items.ensures.value) lists;
       are_rows = tt;
       last_is = tt;

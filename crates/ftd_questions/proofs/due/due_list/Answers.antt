@@ -9,11 +9,11 @@ use Rattle.ftd_machine.specs.declared.facts.Facts.TheVariants.{Due}
 use Rattle.ftd_machine.specs.Step.{Step}
 use Rattle.ftd_machine.specs.Told.{due_answer}
 use Rattle.ftd_machine.specs.declared.replies.Reply.TheVariants.{Told}
-use Rattle.ftd_entries.proofs.Serving.{served_looked}
+use Rattle.ftd_entries.proofs.Serving.{served_looked, tells_by}
 use Rattle.ftd_questions.specs.DueRows.{KnowsForDue, KnowsYears}
-use Rattle.ftd_questions.specs.Shown.{KnowsQuarter}
+use Rattle.ftd_questions.specs.Shown.{KnowsQuarter, ShowsList}
 use Rattle.ftd_questions.proofs.DueTold.{checks, due_decided, due_told}
-use Rattle.ftd_questions.proofs.Shown.{due_list_refuses, shown_by, told_list}
+use Rattle.ftd_questions.proofs.Shown.{due_list_refuses, told_list}
 use Rattle.ftd_questions.proofs.due.due_list.Goals as goal
 
 pub returns-in-Err : goal.returns-in-Err
@@ -26,9 +26,7 @@ returns-in-Err g c =
     record {
       call = served_looked (Question (DueList name quarter as_of)) answer
           c.in_ok-before.ensures.call (due_decided name quarter as_of known answer (search rules));
-      shows = shown_by g.S.Store c.args.tx.now c.known_for_due.new.tx known answer
-          (DueList name quarter as_of) (KnowsForDue name quarter) c.in_ok-before.ensures.call
-          (λ t knows list is. absurd ((due_list_refuses name quarter as_of known).never
+      shows = tells_by answer (ShowsList name quarter) c.in_ok-before.ensures.call (λ t knows list is. absurd ((due_list_refuses name quarter as_of known).never
           (Told (Due list)) (search rules ∙ ap Some is)));
     }
 
@@ -61,9 +59,8 @@ returns g c =
           (rw (sym c.from_vec.ensures) at
           (due_told name quarter as_of known account rows.items c.in-Ok-checked.ensures.1 passed t s
           stands sound (knows.0, knows.1.0.0))));
-      shows = shown_by g.S.Store c.args.tx.now c.rows_of_quarter.new.tx found
-          (due_answer owner quarter as_of c.from_vec.result) (DueList name quarter as_of) _ read
-          (λ t knows other is.
+      shows = tells_by (due_answer owner quarter as_of c.from_vec.result) (ShowsList name quarter)
+          read (λ t knows other is.
           rw (sym c.from_vec.ensures ∙ ap (λ (list : DueListRow). list.rows) (told_list _ other is))
           at knows.1.0.1);
     }

@@ -3,15 +3,14 @@ use Rattle.ftd_store.proofs.Going.{then_goes}
 use Rattle.ftd_store.proofs.Telling.{reads_on, then_reads}
 use Rattle.ftd_store.proofs.Turning.{gave_up_after}
 use Rattle.ftd_entries.specs.Accounts.{KnowsAccounts}
-use Rattle.ftd_questions.proofs.ByAccount.{due_known_all, of_none, so_far_due_more}
+use Rattle.ftd_questions.proofs.ByAccount.{due_known_all, so_far_due_more, so_far_due_none}
 use Rattle.ftd_questions.proofs.listing.due_between.Goals as goal
 
 pub loop-account-init : goal.loop-account-init
 loop-account-init g c = rw c.new-listed.ensures.items
-    (reads_on tt _ c.in_ok-accounts.ensures.call (λ t known. record {
-      known = subst (λ xs. KnowsAccounts xs t) (sym c.deref-account-items.ensures.value) known;
-      due = λ s stands sound. of_none c.args.unpaid c.args.from c.args.to t s stands sound;
-    }))
+    (reads_on tt _ c.in_ok-accounts.ensures.call (λ t known. so_far_due_none c.args.unpaid c.args.from
+    c.args.to _ t (subst (λ xs. KnowsAccounts xs t) (sym c.deref-account-items.ensures.value)
+    known)))
 
 pub loop-account-preserved : goal.loop-account-preserved
 loop-account-preserved g c =
