@@ -10,6 +10,7 @@ mod Billing
 mod Paydays
 mod Counted
 mod ExplainedKnown
+mod TablesExplained
 mod Held
 mod PaymentOrder
 mod PaymentsTold

@@ -1,5 +1,5 @@
 -- The deposit schedule of a day, and why: what is answered, and that it is the machine's answer.
-use Rattle.std.proofs.Common.{◌≡◌, ◌⊎◌, ℕ, ◌+◌, ◌-◌, ◌<◌, ◌==◌, ◌&&◌, Bool, true, List, Option}
+use Rattle.std.proofs.Common.{◌≡◌, ◌⊎◌, ℕ, ◌+◌, ◌-◌, ◌<◌, ◌==◌, ◌&&◌, Bool, true, List, [], Option}
 use Rattle.std.proofs.Common.{None, Some, Ok, Vec, inl, inr, refl, sym, ap, subst, ◌∙◌, arith}
 use Rattle.std.specs.Prelude.{is_some, nat_lt, IsSome, IsSomeAnd, MatchOption}
 use Rattle.std.specs.Borrow.{Bor}
@@ -29,6 +29,7 @@ use Rattle.ftd_machine.specs.Requests.{status_checks}
 use Rattle.ftd_machine.specs.State.{State, Entries, entries_of, is_open}
 use Rattle.ftd_machine.specs.Step.{Step}
 use Rattle.ftd_machine.proofs.Deciding.{decided, passed}
+use Rattle.ftd_machine.proofs.Refusing.{Refuses, refuses_finds, refuses_needs, refuses_none}
 use Rattle.ftd_machine.proofs.Heads.{Gives, gives_needs, skip_needs, skip_finds}
 use Rattle.ftd_entries.specs.Known.{KnowsAccount, KnowsLines}
 use Rattle.ftd_entries.specs.Opening.{is_line_of, turns_into}
@@ -128,6 +129,13 @@ account_and_lines {account = account} {lines = lines} name p q =
       knows s stands,
       lines_known name lines t s stands lists (stands.settled name),
     ))
+
+-- the checks of a day refuse or pass
+pub status_refuses : (name : List ℕ) (day : ℕ) (account : Option Account) (there : Bool)
+    → Refuses (status_checks name day account there)
+status_refuses name day account there =
+    refuses_needs _ _ _
+    (refuses_needs _ _ _ (refuses_finds _ _ _ (refuses_needs _ _ [] refuses_none)))
 
 pub none_by : {Told : Type 0} (lines : List YearLine) (day : ℕ)
     → list_any (is_line_of (year_of day)) lines ≡ true

@@ -11,6 +11,8 @@ ghost use Rattle.ftd_machine.specs.declared.requests.Request.TheVariants.{Questi
 ghost use Rattle.ftd_entries.specs.Words.{Serves};
 ghost use Rattle.ftd_kept.specs.Explained.{AreCounted, AreRunning, IsToldBy, KnowsCovering};
 ghost use Rattle.ftd_kept.specs.Explained.{KnowsExplained, KnowsExplanation, KnowsPaydays};
+ghost use Rattle.ftd_kept.specs.Explained.{ShowsCovering, ShowsExplained, ShowsExplanation};
+ghost use Rattle.ftd_kept.specs.Explained.{ShowsFound};
 ghost use Rattle.ftd_rules.specs.Laws.{IsFirstCounted};
 
 use crate::paid::obligation_payments;
@@ -26,7 +28,8 @@ use ftd_store::{StoreFault, Tx};
 use sqlite::Alter;
 use std::alloc::{AllocError, Global};
 
-/// Tells why the obligation is so whose deposit period holds the day.
+/// Tells why the obligation is so whose deposit period holds the day. Its obligation, its paydays
+/// and its payments are the rows of the tables as they stand, whatever else these hold.
 pub fn explain<S: Alter>(
     tx: &mut Tx<'_, S>,
     alloc: Global,
@@ -34,6 +37,8 @@ pub fn explain<S: Alter>(
     day: Day,
 ) -> Result<Answer, StoreFault>
     ensures call { Calls S.Store tx.old tx.new result (Serves (Question (Explain name.now day))) }
+    ensures shows { Calls S.Store tx.old tx.new result (λ answer before after t.
+        ShowsExplained name.now day answer t) }
 {
     let Ok(owner) = AccountName::copy_of(alloc, name) else {
         return tx.give_up(StoreFault::Memory);
@@ -63,8 +68,9 @@ fn explained<S: Alter>(
     lines: &[YearLine],
     day: Day,
 ) -> Result<Option<Explanation>, StoreFault>
-    ensures call { Reads S.Store tx.old tx.new result
-        (KnowsExplained name.now form lines.now day) }
+    ensures call { Reads S.Store tx.old tx.new result (λ found t.
+        KnowsExplained name.now form lines.now day found t
+        × ShowsFound name.now form day found t) }
 {
     let Some(obligation) = covering(tx, alloc, name, day)? else {
         return Ok(None);
@@ -80,7 +86,8 @@ fn covering<S: Alter>(
     name: &str,
     day: Day,
 ) -> Result<Option<Obligation>, StoreFault>
-    ensures call { Reads S.Store tx.old tx.new result (KnowsCovering name.now day) }
+    ensures call { Reads S.Store tx.old tx.new result (λ found t.
+        KnowsCovering name.now day found t × ShowsCovering name.now day found t) }
 {
     let begun = tx.obligations(alloc, name, Day::first_of_month(0), day)?;
     Ok(ends_from(&begun, day))
@@ -107,8 +114,10 @@ fn explanation<S: Alter>(
     lines: &[YearLine],
     obligation: Obligation,
 ) -> Result<Explanation, StoreFault>
-    ensures call { Reads S.Store tx.old tx.new result
-        (KnowsExplanation name.now form lines.now obligation) }
+    ensures call { Reads S.Store tx.old tx.new result (λ explanation t.
+        KnowsExplanation name.now form lines.now obligation explanation t
+        × (explanation.obligation ≡ obligation)
+        × ShowsExplanation name.now form explanation t) }
 {
     let Some(year) = open_year(&obligation) else {
         return tx.give_up(StoreFault::Failed);

@@ -6,8 +6,9 @@ use Rattle.ftd_rules.specs.Lists.{Has}
 use Rattle.ftd_store.proofs.Telling.{reads_on}
 use Rattle.ftd_entries.specs.Owed.{KnowsObligations}
 use Rattle.ftd_entries.proofs.OwedRows.{obligations_known}
-use Rattle.ftd_kept.specs.Explained.{KnowsCovering}
+use Rattle.ftd_kept.specs.Explained.{KnowsCovering, ShowsCovering}
 use Rattle.ftd_kept.proofs.ExplainedKnown.{covering_known}
+use Rattle.ftd_kept.proofs.TablesExplained.{covering_shown}
 use Rattle.ftd_kept.proofs.explaining.covering.Goals as goal
 
 pub returns : goal.returns
@@ -24,8 +25,11 @@ returns g c =
     ((o : Obligation) → Has os o → day ≤ o.last → ⊥) (λ o. Has os o × (day ≤ o.last)))
     c.deref.ensures.value c.ends_from.ensures in
     record {
-      call = reads_on found (KnowsCovering name day) c.in_ok-begun.ensures.call
-          (λ t lists. covering_known name day begun.items found ends t
-          (subst (λ n. KnowsObligations name n day begun.items t) first
-          (obligations_known name c.first_of_month.result day begun t lists)));
+      call = reads_on found (λ of t. KnowsCovering name day of t × ShowsCovering name day of t)
+          c.in_ok-begun.ensures.call (λ t lists. (
+            covering_known name day begun.items found ends t
+                (subst (λ n. KnowsObligations name n day begun.items t) first
+                (obligations_known name c.first_of_month.result day begun t lists)),
+            covering_shown name c.first_of_month.result day begun found ends first t lists,
+          ));
     }

@@ -12,6 +12,7 @@ returns-in-Ok g c =
     let sums = c.in_ok-sums.sums in
     record {
       call = reads_on c.in-Ok.rows _ c.in_ok-sums.ensures.call (λ t lists. record {
+        shown = record { sums = sums.items; are_sums = lists; running = running };
         rise = λ s stands. paydays_rise c.args.name.now o sums _ t s stands lists running;
         all = λ s stands. paydays_are c.args.name.now o sums _ t s stands lists running;
       });
