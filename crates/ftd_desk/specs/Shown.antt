@@ -1,4 +1,4 @@
--- What a due list shows of the rows of the tables, whatever else these hold.
+-- What an answer shows of the rows of the tables, whatever else these hold.
 use Rattle.std.specs.Prelude.{Option, None, Some, ⊤}
 use Rattle.sqlite.specs.State as database
 use Rattle.sqlite.specs.State.{HasCleanDisk}
@@ -7,7 +7,17 @@ use Rattle.ftd_machine.specs.Checks.{Answer}
 use Rattle.ftd_machine.specs.Questions.{question_of}
 use Rattle.ftd_machine.specs.declared.requests.Question.{Question}
 use Rattle.ftd_machine.specs.declared.requests.Request.{Request}
-use Rattle.ftd_questions.specs.Shown.{Shows}
+use Rattle.ftd_machine.specs.declared.requests.Question.TheVariants.{Agenda, DueList, Explain, Owed}
+use Rattle.ftd_kept.specs.Explained.{ShowsExplained}
+use Rattle.ftd_questions.specs.Shown.{ShowsAgenda, ShowsList, ShowsOwed}
+
+-- a due list, an agenda, what is owed and an explanation show the tables' rows as they stand
+abbrev pub Shows : Question → Answer → Tables → Type 0
+Shows (Explain name day) answer t = ShowsExplained name day answer t
+Shows (DueList name quarter as_of) answer t = ShowsList name quarter answer t
+Shows (Agenda from to as_of) answer t = ShowsAgenda from to answer t
+Shows (Owed until as_of) answer t = ShowsOwed until as_of answer t
+Shows other answer t = ⊤
 
 -- of a request that is a question, its answer shows the tables' rows as they stand
 abbrev pub ShowsIf : Option Question → Answer → Tables → Type 0

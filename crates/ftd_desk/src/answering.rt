@@ -4,7 +4,7 @@ ghost use Rattle.ftd_store.specs.Frame.{Calls};
 ghost use Rattle.ftd_machine.specs.declared.requests.Question.TheVariants as questions;
 ghost use Rattle.ftd_machine.specs.declared.requests.Request.TheVariants as requests;
 ghost use Rattle.ftd_entries.specs.Words.{Serves};
-ghost use Rattle.ftd_questions.specs.Shown.{Shows};
+ghost use Rattle.ftd_desk.specs.Shown.{Shows};
 
 use ftd_kept::{
     accounts, explain, holidays, payments, reported_totals, runs, schedule_b, status,

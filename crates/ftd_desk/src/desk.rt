@@ -65,8 +65,8 @@ impl<S: Alter> Desk<S> {
     /// desk is stopped: it answers `Store` to everything, and does not touch the tables; only then
     /// may a crash find what a request changes that was answered `Store`. A list of which the
     /// amounts are together 6,000,000,000,000,000 cents or more is none of an account's, and
-    /// answered with `Store`. A due list has the rows of the tables as they stand, whatever else
-    /// these hold.
+    /// answered with `Store`. A due list, an agenda, what is owed and an explanation have the
+    /// rows of the tables as they stand, whatever else these hold.
     pub fn handle(&mut self, request: &Request) -> Answer
         ensures handles { Handles (held S.Store self.old) (held S.Store self.new)
             request.now result }
