@@ -1,3 +1,4 @@
 pub mod EndFacts
 pub mod ServeFacts
 pub mod ListeningFacts
+pub mod ServedFacts

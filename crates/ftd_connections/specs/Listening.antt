@@ -7,6 +7,8 @@ use Rattle.ftd_ports.specs.declared.writing.WriteFault.{WriteFault}
 use Rattle.ftd_ports.specs.Writing.{WritesPrefix}
 use Rattle.ftd_connections.specs.declared.connection.Cause.{Cause}
 use Rattle.ftd_connections.specs.declared.connection.Cause.TheVariants as why
+use Rattle.ftd_connections.specs.declared.connection.ServeFault.{ServeFault}
+use Rattle.ftd_connections.specs.declared.connection.ServedConnection.{ServedConnection}
 use Rattle.ftd_connections.specs.declared.outcome.Outcome.{Outcome}
 use Rattle.ftd_connections.specs.declared.outcome.Outcome.TheVariants as outcome
 use Rattle.ftd_connections.specs.declared.outcome.Turn.{Turn}
@@ -14,9 +16,9 @@ use Rattle.ftd_connections.specs.declared.stop.Stop.{Stop}
 use Rattle.ftd_connections.specs.declared.stop.Stop.TheVariants as stop
 
 -- what became of a connection that was served, or failed
-abbrev pub outcome_of : Result (Unit {0}) Cause → Outcome
-outcome_of (Ok done) = outcome.Served
-outcome_of (Err cause) = outcome.Failed cause
+abbrev pub outcome_of : Result ServedConnection ServeFault → Outcome
+outcome_of (Ok served) = outcome.Served
+outcome_of (Err fault) = outcome.Failed fault.cause
 
 abbrev pub line_end : List ℕ
 line_end = 10 ∷ []

@@ -5,9 +5,9 @@ use crate::connection::Cause;
 /// What became of a connection.
 #[derive(Clone, Copy, Debug, PartialEq, Eq)]
 pub enum Outcome {
-    /// The listener gave none.
+    /// The listener gave none, or there was no memory for it.
     Missed,
-    /// It was served.
+    /// It was served, or nothing came on it in time.
     Served,
     /// Serving it failed.
     Failed(Cause),

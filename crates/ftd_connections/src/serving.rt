@@ -1,114 +1,123 @@
 //! A listener's connections, served one after the other.
 
-ghost use Rattle.std.specs.Prelude.{◌<◌, ◌≤◌, Result};
+ghost use Rattle.std.specs.Prelude.{◌≡◌, ◌<◌, ◌≤◌, Result};
 ghost use Rattle.ftd_ports.specs.declared.writing.WriteFault.{WriteFault};
 ghost use Rattle.ftd_connections.specs.Listening.{HasTaken, IsTurn, outcome_of};
-ghost use Rattle.ftd_connections.specs.Served.{IsServed};
+ghost use Rattle.ftd_connections.specs.Served.{IsServed, StillAnswers, TakesOne, is_ended_here};
 
+use crate::limits::{Limits, seconds};
 use crate::{
-    Cause, End, Machine, Outcome, ServedConnection, TimedStream, Timer, Turn, Wire, end,
-    serve_machine, tell_outcome,
+    Arrival, Arrivals, Connection, End, Machine, Outcome, ServeFault, ServedConnection,
+    TimedStream, Timer, Turn, Waits, Wire, serve_machine, tell_outcome,
 };
 use ftd_ports::{Port, Target};
-use ftd_waiting::{Next, WaitingRoom};
-use std::net::TcpStream;
+use std::io::{Read, Write};
 use std::thread;
 use std::time::{Clock, Duration};
 
-/// How much a server takes upon itself.
-#[derive(Clone, Copy, Debug, PartialEq, Eq)]
-pub struct Limits {
-    /// How many connections it takes.
-    pub connections: u32,
-    /// How many seconds a peer may be idle between two messages, and before the first, from when
-    /// it was accepted.
-    pub idle: u32,
-    /// How many seconds a read inside a message or a write waits for the peer.
-    pub silence: u32,
-    /// For how many seconds one connection is read and written.
-    pub duration: u32,
-}
-
-/// So many seconds.
-fn seconds(count: u32) -> Duration {
-    Duration::from_secs(u64::from(count))
+/// What was said on a connection.
+struct Conversation<S> {
+    /// The connection after it.
+    connection: Connection<S>,
+    /// How it ended.
+    end: Result<ServedConnection, ServeFault>,
 }
 
 /// Serves one connection. A peer that is silent inside a message, or takes nothing, or goes on for
 /// too long ends it as a failed read or write; one that is idle between two messages ends it.
-fn serve_one<By, M: Machine<By>, R: Clock + AllocGlobal>(
+fn serve_one<By, M: Machine<By>, R: Clock + AllocGlobal, S: Read + Write + Waits>(
     rt: &R,
-    stream: &TcpStream,
+    connection: Connection<S>,
     limits: Limits,
     machine: &mut M,
-) -> Result<(), Cause>
-    ensures { IsServed M.goes machine.old (outcome_of result) machine.new }
+) -> Conversation<S>
+    ensures { IsServed S.remaining S.contents S.may_be_silent M.goes machine.old connection
+        result.end result.connection machine.new }
 {
-    // Where the system sets no limit on waiting, the connection is served without one.
-    let _ = stream.set_write_timeout(Some(seconds(limits.silence)));
-    // No answer is to wait until the peer has acknowledged the one before.
-    let _ = stream.set_nodelay(true);
+    let Connection {
+        reader,
+        writer,
+        peer,
+    } = connection;
     let timer = Timer::new(rt, seconds(limits.duration));
-    let mut source = Wire::new(
-        &timer,
-        stream,
-        stream,
-        seconds(limits.idle),
-        seconds(limits.silence),
-    );
-    let mut target = Port::new(TimedStream::new(&timer, stream));
-    match serve_machine(rt.alloc(), machine, &mut source, &mut target) {
-        Ok(served) => {
-            if is_ended_here(served) {
-                end(rt, stream);
-            }
-            Ok(())
-        }
-        Err(fault) => Err(fault.cause),
+    let (idle, silence) = (seconds(limits.idle), seconds(limits.silence));
+    let mut source = Wire::new(&timer, reader, peer, idle, silence);
+    let mut target = Port::new(TimedStream::new(&timer, writer));
+    let end = serve_machine(rt.alloc(), machine, &mut source, &mut target);
+    let (reader, peer) = source.into_parts();
+    let writer = target.into_inner().into_stream();
+    Conversation {
+        connection: Connection {
+            reader,
+            writer,
+            peer,
+        },
+        end,
     }
 }
 
 /// Whether the server ends a connection after an answer, and the peer may still send.
-fn is_ended_here(served: ServedConnection) -> bool {
-    matches!(served.end, End::Asked | End::Limit | End::BadMessage)
+fn is_ended_here(end: &Result<ServedConnection, ServeFault>) -> bool
+    ensures { result ≡ is_ended_here end.now }
+{
+    match end {
+        Ok(served) => matches!(served.end, End::Asked | End::Limit | End::BadMessage),
+        Err(_) => false,
+    }
+}
+
+/// What became of a connection.
+fn outcome_of(end: Result<ServedConnection, ServeFault>) -> Outcome
+    ensures { result ≡ outcome_of end }
+{
+    match end {
+        Ok(_) => Outcome::Served,
+        Err(fault) => Outcome::Failed(fault.cause),
+    }
 }
 
 /// Takes the connection whose turn is next, after which so many others may be taken, and serves it;
-/// one on which nothing came in time is served with no message. After an error of the listener it
-/// waits for a tenth of a second, so that one that lasts does not keep the processor busy.
-fn take_one<By, M: Machine<By>, R: Clock + AllocGlobal>(
+/// one on which nothing came in time is closed. After an error of the listener it waits for a tenth
+/// of a second, so that one that lasts does not keep the processor busy.
+#[tactic(auto, using(crate::proofs::ServedFacts::given_next))]
+fn take_one<By, M: Machine<By>, R: Clock + AllocGlobal, A: Arrivals>(
     rt: &R,
-    room: &mut WaitingRoom<'_>,
+    room: &mut A,
     limits: Limits,
     others: u32,
     machine: &mut M,
 ) -> Outcome
-    ensures { IsServed M.goes machine.old result machine.new }
+    ensures { TakesOne A.Stream.remaining A.Stream.contents A.Stream.may_be_silent M.goes A.Arrivals
+        (room.old, machine.old) result (room.new, machine.new) }
 {
-    let stream = match room.next(rt, seconds(limits.idle), others) {
-        Next::Ready(stream) => stream,
-        Next::Idle(_) => return Outcome::Served,
-        Next::Missed => {
-            let _ = thread::sleep(rt, Duration::from_millis(100));
-            return Outcome::Missed;
+    match room.next_arrival(rt, limits, others) {
+        Arrival::Ready(connection) => {
+            let Conversation { connection, end } = serve_one(rt, connection, limits, machine);
+            room.close(rt, connection, is_ended_here(&end));
+            outcome_of(end)
         }
-    };
-    match serve_one(rt, &stream, limits, machine) {
-        Ok(()) => Outcome::Served,
-        Err(cause) => Outcome::Failed(cause),
+        Arrival::Idle(connection) => {
+            room.close(rt, connection, false);
+            Outcome::Served
+        }
+        Arrival::Missed => {
+            let _ = thread::sleep(rt, Duration::from_millis(100));
+            Outcome::Missed
+        }
     }
 }
 
 /// Takes a connection, after which so many others may be taken, serves it, and sees whether the
 /// machine still answers.
-fn take_turn<By, M: Machine<By>, R: Clock + AllocGlobal>(
+fn take_turn<By, M: Machine<By>, R: Clock + AllocGlobal, A: Arrivals>(
     rt: &R,
-    room: &mut WaitingRoom<'_>,
+    room: &mut A,
     limits: Limits,
     others: u32,
     machine: &mut M,
 ) -> Turn
-    ensures { IsTurn (IsServed M.goes) M.stays machine.old result machine.new }
+    ensures { IsTurn (TakesOne A.Stream.remaining A.Stream.contents A.Stream.may_be_silent M.goes
+        A.Arrivals) (StillAnswers M.stays) (room.old, machine.old) result (room.new, machine.new) }
 {
     let outcome = take_one(rt, room, limits, others, machine);
     let answers = machine.still_answers(rt.alloc());
@@ -123,9 +132,9 @@ fn take_turn<By, M: Machine<By>, R: Clock + AllocGlobal>(
 /// Those that were accepted are waited for together, and the one on which something comes first is
 /// taken next, so that a silent one holds nobody up. Where the machine does not answer any more,
 /// those that wait stay in the room.
-pub fn serve_on<By, M: Machine<By>, R: Clock + AllocGlobal, Err: Target>(
+pub fn serve_on<By, M: Machine<By>, R: Clock + AllocGlobal, A: Arrivals, Err: Target>(
     rt: &R,
-    room: &mut WaitingRoom<'_>,
+    room: &mut A,
     limits: Limits,
     taken: u32,
     machine: &mut M,
@@ -133,7 +142,8 @@ pub fn serve_on<By, M: Machine<By>, R: Clock + AllocGlobal, Err: Target>(
 ) -> u32
     requires { taken ≤ limits.connections }
     ensures takes { (told : Result (Unit {0}) WriteFault)
-        × HasTaken (IsServed M.goes) M.stays machine.old machine.new told
+        × HasTaken (TakesOne A.Stream.remaining A.Stream.contents A.Stream.may_be_silent M.goes
+        A.Arrivals) (StillAnswers M.stays) (room.old, machine.old) (room.new, machine.new) told
         (Err.taken err.old) (Err.taken err.new) (Err.failed err.new) taken result }
     ensures most { result ≤ limits.connections }
     ensures some { taken < limits.connections → taken < result }

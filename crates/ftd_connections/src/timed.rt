@@ -60,6 +60,14 @@ impl<'a, C: Clock, S> TimedStream<'a, C, S> {
     {
         TimedStream { timer, stream }
     }
+
+    /// The stream, whether the time is over or not.
+    pub fn into_stream(self) -> S
+        ensures { result ≡ stream_of self.entry }
+    {
+        let TimedStream { timer: _, stream } = self;
+        stream
+    }
 }
 
 impl<'a, C: Clock, S: Read> Read for TimedStream<'a, C, S> {

@@ -1,47 +1,40 @@
 //! The stream of a connection as a source.
 
+ghost use Rattle.std.specs.Prelude.{◌≡◌, Bool, true};
+
 use crate::timed::{TimedStream, Timer};
 use ftd_http::Peer;
 use ftd_ports::{Port, PortFault, Source};
-use std::io::{ErrorKind, Read};
-use std::net::TcpStream;
+use std::io::Read;
 use std::time::{Clock, Duration};
 
 /// A stream on which something can be waited for.
 pub trait Waits {
-    /// Whether the stream gives nothing for so long. Later reads wait for `silence`.
-    fn is_silent(&self, wait: Duration, silence: Duration) -> bool;
-}
+    /// Whether it can come about that its peer is silent for as long as it is waited for.
+    ghost may_be_silent: { Self → Bool };
 
-impl Waits for &TcpStream {
-    fn is_silent(&self, wait: Duration, silence: Duration) -> bool {
-        // Where the system sets no limit on waiting, the peer is waited for without one.
-        let _ = self.set_read_timeout(Some(wait));
-        let mut first = [0; 1];
-        let peeked = self.peek(&mut first);
-        let _ = self.set_read_timeout(Some(silence));
-        match peeked {
-            Ok(_) => false,
-            Err(error) => matches!(error.kind(), ErrorKind::WouldBlock | ErrorKind::TimedOut),
-        }
-    }
+    /// Whether the stream gives nothing for so long. Later reads wait for `silence`.
+    fn is_silent(&self, wait: Duration, silence: Duration) -> bool
+        ensures { result ≡ true → may_be_silent self.now ≡ true };
 }
 
 /// The stream of a connection as a source, which gives what the stream gives. Inside a message it
 /// fails where the peer is silent for too long, and it fails once its time is over.
 #[derive(Drop)]
-pub struct Wire<'a, C, S, P> {
+pub struct Wire<'a, C, S, P: Waits> {
     port: Port<TimedStream<'a, C, S>>,
     timer: &'a Timer<'a, C>,
     peer: P,
     idle: Duration,
     silence: Duration,
     was_idle: bool,
+    /// It was idle only where its peer was silent.
+    ghost silent: { was_idle ≡ true → P.may_be_silent peer ≡ true },
 }
 
-impl<'a, C: Clock, S, P> Wire<'a, C, S, P> {
+impl<'a, C: Clock, S, P: Waits> Wire<'a, C, S, P> {
     ghost use Rattle.std.specs.Prelude.{◌≡◌};
-    ghost use Rattle.ftd_connections.specs.Wires.{reader_of};
+    ghost use Rattle.ftd_connections.specs.Wires.{peer_of, reader_of};
 
     /// The stream of a peer that may be idle for so long between two messages, and silent for so
     /// long inside one. It is read by `stream` and waited on by `peer`.
@@ -52,7 +45,8 @@ impl<'a, C: Clock, S, P> Wire<'a, C, S, P> {
         idle: Duration,
         silence: Duration,
     ) -> Wire<'a, C, S, P>
-        ensures { reader_of result ≡ stream }
+        ensures reader { reader_of result ≡ stream }
+        ensures peer { peer_of result ≡ peer }
     {
         Wire {
             port: Port::new(TimedStream::new(timer, stream)),
@@ -63,9 +57,25 @@ impl<'a, C: Clock, S, P> Wire<'a, C, S, P> {
             was_idle: false,
         }
     }
+
+    /// What it is read by, and what it is waited on by.
+    pub fn into_parts(self) -> (S, P)
+        ensures reader { result.0 ≡ reader_of self.entry }
+        ensures peer { result.1 ≡ peer_of self.entry }
+    {
+        let Wire {
+            port,
+            timer: _,
+            peer,
+            idle: _,
+            silence: _,
+            was_idle: _,
+        } = self;
+        (port.into_inner().into_stream(), peer)
+    }
 }
 
-impl<'a, C: Clock, S: Read, P> Source for Wire<'a, C, S, P> {
+impl<'a, C: Clock, S: Read, P: Waits> Source for Wire<'a, C, S, P> {
     ghost use Rattle.ftd_ports.specs.Ports.{has_failed};
     ghost use Rattle.ftd_connections.specs.Wires.{port_of, reader_of};
 
