@@ -8,7 +8,7 @@ ghost use Rattle.ftd.specs.Serving.{ServesFrom, ServesInFiles};
 use crate::commands::server_shell;
 use crate::shell::Around;
 use ftd_cli::{DayClock, ServeTask};
-use ftd_connections::{Limits, announce, serve_on};
+use ftd_connections::{Arrivals, Limits, announce, serve_on};
 use ftd_files::{DeskFiles, FileAt, ProgramFault, SupposesNothing, close_desk, is_new, tell_made};
 use ftd_ports::{Port, Target};
 use ftd_shell::{Inputs, Shell};
@@ -51,10 +51,11 @@ struct FilesServed<D: Disk> {
 }
 
 /// Serves connections after so many others with the desk of files, until all are served or the desk
-/// does not answer any more. The files are closed then.
-fn serve_shell<R, D, N, E>(
+/// does not answer any more. The files are closed then. What is read of each connection and written
+/// to it is said whatever gives the connections; of a socket `std` says neither.
+fn serve_shell<R, D, N, A, E>(
     rt: &R,
-    room: &mut WaitingRoom<'_>,
+    room: &mut A,
     turns: Turns,
     shell: Shell<FileStore<D>, N>,
     err: &mut E,
@@ -63,9 +64,11 @@ where
     R: Clock + AllocGlobal,
     D: Disk + Drop,
     N: Inputs + DayClock + Drop,
+    A: Arrivals,
     E: Target,
     requires { turns.taken ≤ turns.limits.connections }
-    ensures { ServesInFiles N.told (E.taken err.old) (E.taken err.new) (E.failed err.new)
+    ensures { ServesInFiles N.told A.Stream.remaining A.Stream.contents A.Stream.may_be_silent
+        A.Arrivals room.old room.new (E.taken err.old) (E.taken err.new) (E.failed err.new)
         (file_of shell) turns.taken D.Disk result shell.desk }
 {
     let mut shell = shell;
@@ -80,9 +83,9 @@ where
 /// closed then: the desk stands for each state for which the files stood, its messages are answered
 /// as by that desk, one connection after the other, and each state for which it stands at the end
 /// rests in the files. An error says why they can't be opened; no connection was taken then.
-fn serve_in_files<R, D, F, N, E>(
+fn serve_in_files<R, D, F, N, A, E>(
     rt: &R,
-    room: &mut WaitingRoom<'_>,
+    room: &mut A,
     turns: Turns,
     server: FileServer<F, N>,
     err: &mut E,
@@ -92,9 +95,11 @@ where
     D: Disk + Drop,
     F: DeskFiles<D> + Drop,
     N: Inputs + DayClock + Drop,
+    A: Arrivals,
     E: Target,
     requires { turns.taken ≤ turns.limits.connections }
-    ensures { IfOk result (λ done. ServesFrom N.told (E.taken err.old) (E.taken err.new)
+    ensures { IfOk result (λ done. ServesFrom N.told A.Stream.remaining A.Stream.contents
+        A.Stream.may_be_silent A.Arrivals room.old room.new (E.taken err.old) (E.taken err.new)
         (E.failed err.new) (string_bytes server.db) turns.taken D.Disk done F.DeskFiles.image) }
 {
     let FileServer { files, db, inputs } = server;
