@@ -23,7 +23,7 @@ use clap::error::ErrorKind;
 use clap::{ArgMatches, Error};
 use ftd_days::Day;
 use ftd_verbs::Field;
-use std::alloc::Global;
+use std::alloc::{AllocError, Global};
 
 /// What is told of words that name no subcommand.
 const NO_COMMAND: &str = "\
@@ -99,6 +99,18 @@ fn example_for(given: &[String]) -> &'static str {
     }
 }
 
+/// The text, in which each of the words that has a line end stands in one line.
+fn in_lines(alloc: Global, text: String, given: &[String]) -> Result<String, AllocError> {
+    let mut text = text;
+    for word in given {
+        if word.contains('\n') {
+            let shown = escape_word(alloc, word)?;
+            text = text.replace(alloc, word.as_str(), &shown)?;
+        }
+    }
+    Ok(text)
+}
+
 /// What words get that are no command line: the text of `clap`, and below it how the subcommand is
 /// used.
 fn usage_for(alloc: Global, text: &str, given: &[String]) -> CliFault
@@ -122,7 +134,10 @@ fn told_error(alloc: Global, error: &Error, given: &[String]) -> CliFault
     };
     match error.kind() {
         ErrorKind::DisplayHelp | ErrorKind::DisplayVersion => CliFault::Help(text),
-        _ => usage_for(alloc, &text, given),
+        _ => match in_lines(alloc, text, given) {
+            Ok(text) => usage_for(alloc, &text, given),
+            Err(_) => CliFault::Memory,
+        },
     }
 }
 
