@@ -1,7 +1,7 @@
 -- The lines of a shell, and the commands that they stand for.
 use Rattle.std.specs.Prelude.{◌≡◌, ◌==◌, ◌||◌, [], ◌∷◌, ◌++◌, ℕ, Bool, List, None, Option, Some}
 use Rattle.std.specs.Prelude.{codes, filter, false, if◌then◌else◌, length, map, nat_lt, true}
-use Rattle.std.specs.Prelude.{◌≢◌, ◌<◌, ◌≤◌, IfSome}
+use Rattle.std.specs.Prelude.{◌≢◌, ◌<◌, ◌≤◌, ◌&&◌, IfSome}
 use Rattle.std.specs.Io.BufRead.{drop_through, first_piece}
 use Rattle.std.specs.List.{join_by, list_all, slice_split}
 use Rattle.std.specs.Str.{bytes_eq, is_utf8}
@@ -68,13 +68,19 @@ takes_file_if (Some name) = takes_file name
 abbrev pub is_with_file : List ℕ → Bool
 is_with_file name = takes_file_if (command_named name)
 
+-- the words behind a command without the file, where they name this one first, as a hint does
+abbrev pub without_file : List ℕ → List (List ℕ) → List (List ℕ)
+without_file db (option ∷ (file ∷ rest)) =
+    if bytes_eq option (codes "--db") && bytes_eq file db then rest else option ∷ file ∷ rest
+without_file db words = words
+
 -- the words of the command line that the words of a line stand for: a command that takes the file
 -- of a desk is given this one
 abbrev pub command_words : List ℕ → List (List ℕ) → List (List ℕ)
 command_words db [] = codes "ftd" ∷ []
 command_words db (name ∷ rest) =
-    codes "ftd" ∷ name ∷ (if is_with_file name then (codes "--db=" ++ db) ∷ codes "--wait=0" ∷ rest
-    else rest)
+    codes "ftd" ∷ name ∷ (if is_with_file name
+    then (codes "--db=" ++ db) ∷ codes "--wait=0" ∷ without_file db rest else rest)
 
 -- the words as they are shown: a blank between two of them, and each control byte as `\x1b`
 abbrev pub shown_words : List (List ℕ) → List ℕ

@@ -5,7 +5,7 @@ ghost use Rattle.std.specs.String.{string_bytes};
 ghost use Rattle.ftd_cli.specs.Lines.{IsLine, TakesTexts, asks_nothing, command_words, is_blank};
 ghost use Rattle.ftd_cli.specs.Lines.{is_with_file};
 ghost use Rattle.ftd_cli.specs.Lines.{line_of, parts_of, shown_words, text_in, without_program};
-ghost use Rattle.ftd_cli.specs.Lines.{NextOf};
+ghost use Rattle.ftd_cli.specs.Lines.{NextOf, without_file};
 
 use crate::deciding::command_named;
 use crate::escape::escape_word;
@@ -155,8 +155,18 @@ pub(crate) fn is_with_file(name: &str) -> bool
     }
 }
 
+/// The words behind a command without the file, where they name this one first, as a hint does.
+fn without_file<'w>(db: &str, words: &'w [String]) -> &'w [String]
+    ensures { map string_bytes result.now ≡ without_file db.now (map string_bytes words.now) }
+{
+    match words {
+        [option, file, rest @ ..] if option.as_str() == "--db" && file.as_str() == db => rest,
+        _ => words,
+    }
+}
+
 /// The words of the command line that these stand for. A command that takes the file of a desk is
-/// given this one.
+/// given this one, which may stand behind it already, as in a hint.
 pub fn command_words(alloc: Global, db: &str, words: &[String]) -> Result<Vec<String>, AllocError>
     ensures { IfOk result (λ all. map string_bytes all.items
         ≡ command_words db.now (map string_bytes words.now)) }
@@ -168,8 +178,10 @@ pub fn command_words(alloc: Global, db: &str, words: &[String]) -> Result<Vec<St
         if is_with_file(name) {
             all.push(format!(in alloc; "--db={db}")?)?;
             all.push(String::from_str(alloc, "--wait=0")?)?;
+            push_copies(alloc, without_file(db, rest), &mut all)?;
+        } else {
+            push_copies(alloc, rest, &mut all)?;
         }
-        push_copies(alloc, rest, &mut all)?;
     }
     Ok(all)
 }

@@ -11,7 +11,7 @@ use Rattle.std.specs.Prelude.{codes}
 use Rattle.std.specs.Str.{bytes_eq}
 use Rattle.clap.specs.Walk.{Text}
 use Rattle.ftd_cli.specs.Lines.{after_line, are_texts, asks_nothing, begins_comment, command_words}
-use Rattle.ftd_cli.specs.Lines.{first_line, is_with_file, line_of, without_program}
+use Rattle.ftd_cli.specs.Lines.{first_line, is_with_file, line_of, without_file, without_program}
 use Rattle.ftd_cli.specs.declared.lines.TheConstants.{MOST_LINE}
 use Rattle.ftd_cli.specs.Tasks.{task_of}
 use Rattle.ftd_machine.specs.declared.requests.Request.{Request}
@@ -34,6 +34,7 @@ pub record IsLineOf (asked : Request) : Type 0 where
   pub other : bytes_eq (row_of verb).command (codes "ftd") ≡ false
   pub no_comment : begins_comment (row_of verb).command ≡ false
   pub file : is_with_file (row_of verb).command ≡ true
+  pub no_file : (db : Text) → without_file db (map text_of items) ≡ map text_of items
   pub few : IsShort asked → length items ≤ 100
   pub asks : (today : Option ℕ) (db : Text) → Asks today db verb items asked
 
@@ -96,7 +97,9 @@ module _ (asked : Request) (l : IsLineOf asked) where
   asks_it today db =
       ap (λ words. task_of today (command_words db words)) words_are
       ∙ ap (λ b. task_of today (codes "ftd" ∷ command
-      ∷ cond b ((codes "--db=" ++ db) ∷ codes "--wait=0" ∷ texts) texts)) l.file
+      ∷ cond b ((codes "--db=" ++ db) ∷ codes "--wait=0" ∷ without_file db texts) texts)) l.file
+      ∙ ap (λ words. task_of today (codes "ftd" ∷ command
+      ∷ (codes "--db=" ++ db) ∷ codes "--wait=0" ∷ words)) (l.no_file db)
       ∙ l.asks today db
 
   -- a script that begins with the line is not empty

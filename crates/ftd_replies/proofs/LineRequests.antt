@@ -1,14 +1,14 @@
 -- What the words of a pay run and of a payment ask, each a value at its place.
 use Rattle.std.proofs.Common.{◌≡◌, ◌<◌, ◌^◌, ◌∙◌, ℕ, Bool, true, false, List, [], ◌∷◌, Option, None}
 use Rattle.std.proofs.Common.{Some, ap, arith, cond, length, nat_lt, option_map, refl, subst, sym}
-use Rattle.std.specs.Prelude.{◌&&◌, IfSome, option_and_then}
+use Rattle.std.specs.Prelude.{◌&&◌, ◌++◌, IfSome, codes, option_and_then}
 use Rattle.std.specs.Str.{all_ascii_digits}
 use Rattle.std.specs.Fmt.{decimal}
 use Rattle.std.specs.Str.{bytes_eq}
 use Rattle.std.specs.Str.Parse.{without_leading_plus}
 use Rattle.std.proofs.lemmas.Bool.Decides.{nat_tests}
 use Rattle.std.proofs.lemmas.Option.{option_and_then_some}
-use Rattle.ftd_cli.specs.Tasks.{command_named}
+use Rattle.ftd_cli.specs.Tasks.{command_named, task_of}
 use Rattle.ftd_cli.specs.Words.{amount_of}
 use Rattle.ftd_days.specs.Digits.{number_of}
 use Rattle.ftd_days.specs.Spelling.{cents_of, day_of, whole_number}
@@ -22,6 +22,7 @@ use Rattle.ftd_verbs.specs.Rows.{row_of}
 use Rattle.ftd_verbs.specs.declared.rows.Verb.TheVariants as verb
 use Rattle.ftd_replies.specs.LineRequests.{AlwaysAsk, as_printed, is_value, name_in, number_in}
 use Rattle.ftd_replies.specs.LineRequests.{pay_in, payment_in, post_in, request_in, run_in, value_as}
+use Rattle.ftd_replies.proofs.LineValues.{value_first}
 use Rattle.ftd_replies.proofs.LineVerbs.{IsNumberText, Spells, pay_asks, post_asks}
 use Rattle.ftd_replies.proofs.RequestLines.{number_text}
 
@@ -145,8 +146,10 @@ post_words : (account number payday fit ss medicare : List ℕ) (n : ℕ) (run :
     (request.Post account n run)
 unfolding command_named
 post_words account number payday fit ss medicare n run a b r = λ today db.
-    post_asks today db account number n payday run.payday fit run.fit ss run.ss medicare run.medicare
-    a b r.day r.tax r.social r.care
+    ap (λ words. task_of today (codes "ftd" ∷ (row_of verb.Post).command
+    ∷ (codes "--db=" ++ db) ∷ codes "--wait=0" ∷ words)) (value_first db account _ a)
+    ∙ post_asks today db account number n payday run.payday fit run.fit ss run.ss medicare
+    run.medicare a b r.day r.tax r.social r.care
 
 pay_words : (account number paid for_day cents : List ℕ) (n : ℕ) (payment : Payment)
     → is_value account ≡ true → IsNumberText number n → SpellsPayment paid for_day cents payment
@@ -154,8 +157,10 @@ pay_words : (account number paid for_day cents : List ℕ) (n : ℕ) (payment : 
     (request.Pay account n payment)
 unfolding command_named
 pay_words account number paid for_day cents n payment a b r = λ today db.
-    pay_asks today db account number n paid payment.paid for_day payment.for_day cents payment.cents
-    a b r.day r.other r.amount
+    ap (λ words. task_of today (codes "ftd" ∷ (row_of verb.Pay).command
+    ∷ (codes "--db=" ++ db) ∷ codes "--wait=0" ∷ words)) (value_first db account _ a)
+    ∙ pay_asks today db account number n paid payment.paid for_day payment.for_day cents
+    payment.cents a b r.day r.other r.amount
 
 post_request : (words : List (List ℕ)) (asked : Request) → post_in words ≡ Some asked
     → AlwaysAsk ((row_of verb.Post).command ∷ words) asked

@@ -16,6 +16,7 @@ use Rattle.std.proofs.lemmas.Fmt.{length-decimal-le}
 use Rattle.std.proofs.lemmas.List.Folds.{list_all-append}
 use Rattle.clap.specs.ValueTests.{accepts}
 use Rattle.clap.specs.declared.builder.value_parser.ValueParser.TheVariants as parser
+use Rattle.ftd_cli.specs.Lines.{without_file}
 use Rattle.ftd_days.specs.Calendar.{quarter_year, year_of}
 use Rattle.ftd_days.specs.Digits.{AreDigits, digit, two_digits}
 use Rattle.ftd_days.specs.Text.{cents_text, day_text, quarter_text}
@@ -54,6 +55,17 @@ graphic_digits [] e = refl
 graphic_digits (d ∷ ds) e =
     let range = digit_range d ds e in
     rw (graphic d (omega arith) (omega arith)) (graphic_digits ds (rest_digits d ds e))
+
+-- words of which the first is a value do not begin with the option that names a file
+pub value_first : (db word : List ℕ) (words : List (List ℕ)) → is_value word ≡ true
+    → without_file db (word ∷ words) ≡ word ∷ words
+value_first db [] words e = cc e
+value_first db (byte ∷ bytes) [] e = refl
+value_first db (byte ∷ bytes) (file ∷ rest) e = rw (is_not (byte == 45) e) refl
+  where
+    is_not : (b : Bool) → not b ≡ true → b ≡ false
+    is_not true e = cc e
+    is_not false e = refl
 
 -- a word of printed bytes that is no flag and not long
 value_of_parts : (text : List ℕ) → is_printed text ≡ true → is_value text ≡ true

@@ -43,7 +43,7 @@ use Rattle.ftd_verbs.specs.declared.rows.Verb.TheVariants as verb
 use Rattle.ftd_replies.proofs.CutLines.{are_words, is_word}
 use Rattle.ftd_replies.proofs.CutLines.{spaced}
 use Rattle.ftd_replies.proofs.LineValues.{cents_value, day_value, name_value, number_accepted}
-use Rattle.ftd_replies.proofs.LineValues.{number_other, number_value, quarter_value}
+use Rattle.ftd_replies.proofs.LineValues.{number_other, number_value, quarter_value, value_first}
 use Rattle.ftd_replies.proofs.LineDays.{calendar_asks}
 use Rattle.ftd_replies.proofs.LineVerbs.{IsNumberText, Spells, add_holiday_asks}
 use Rattle.ftd_replies.proofs.LineVerbs.{change_holiday_asks, correct_account_asks}
@@ -119,6 +119,7 @@ enrol_line_is name start true form a d = record {
   other = refl;
   no_comment = refl;
   file = refl;
+  no_file = λ db. value_first db _ _ (name_value name a).1;
   few = λ h. omega arith;
   asks = λ today db. enrol_asks today db name (day_text start) start true (form_number form)
       form (name_value name a).1 (day_spells start d) (form_spells form);
@@ -132,6 +133,7 @@ enrol_line_is name start false form a d = record {
   other = refl;
   no_comment = refl;
   file = refl;
+  no_file = λ db. value_first db _ _ (name_value name a).1;
   few = λ h. omega arith;
   asks = λ today db. enrol_asks today db name (day_text start) start false (form_number form)
       form (name_value name a).1 (day_spells start d) (form_spells form);
@@ -148,6 +150,7 @@ add_holiday_line day d = record {
   other = refl;
   no_comment = refl;
   file = refl;
+  no_file = λ db. refl;
   few = λ h. omega arith;
   asks = λ today db. add_holiday_asks today db (day_text day) day (day_spells day d);
 }
@@ -164,6 +167,7 @@ report_line account quarter cents a q c = record {
   other = refl;
   no_comment = refl;
   file = refl;
+  no_file = λ db. value_first db _ _ (name_value account a).1;
   few = λ h. omega arith;
   asks = λ today db. report_asks today db account (quarter_text quarter) quarter
       (cents_text cents.0) cents (name_value account a).1 (quarter_spells quarter q)
@@ -182,6 +186,7 @@ report_year_line account year cents a y c = record {
   other = refl;
   no_comment = refl;
   file = refl;
+  no_file = λ db. value_first db _ _ (name_value account a).1;
   few = λ h. omega arith;
   asks = λ today db. report_year_asks today db account (decimal year) year (cents_text cents.0)
       cents (name_value account a).1 (number_text year y) (cents_spells cents c);
@@ -199,6 +204,7 @@ open_year_line account year a y = record {
   other = refl;
   no_comment = refl;
   file = refl;
+  no_file = λ db. value_first db _ _ (name_value account a).1;
   few = λ h. omega arith;
   asks = λ today db. open_year_asks today db account (decimal year) year (name_value account a).1
       (number_text year y);
@@ -249,6 +255,7 @@ calendar_line_is year days y d = record {
   other = refl;
   no_comment = refl;
   file = refl;
+  no_file = λ db. value_first db _ _ (number_text year y).value;
   few = λ h. omega (arith, length-map (map day_text days) place, length-map days day_text);
   asks = λ today db. calendar_asks db (decimal year) today (map day_text days) year days
       (number_text year y) (day_values days) (days_back days d);
@@ -277,6 +284,7 @@ post_line_is account number run a n r = record {
   other = refl;
   no_comment = refl;
   file = refl;
+  no_file = λ db. value_first db _ _ (name_value account a).1;
   few = λ h. omega arith;
   asks = λ today db. post_asks today db account (decimal number) number
       (day_text run.payday) run.payday (cents_text run.fit.0) run.fit (cents_text run.ss.0) run.ss
@@ -297,6 +305,7 @@ void_line account number a n = record {
   other = refl;
   no_comment = refl;
   file = refl;
+  no_file = λ db. value_first db _ _ (name_value account a).1;
   few = λ h. omega arith;
   asks = λ today db. void_asks today db account (decimal number) number (name_value account a).1
       (number_text number n);
@@ -321,6 +330,7 @@ pay_line_is account number payment a n p = record {
   other = refl;
   no_comment = refl;
   file = refl;
+  no_file = λ db. value_first db _ _ (name_value account a).1;
   few = λ h. omega arith;
   asks = λ today db. pay_asks today db account (decimal number) number
       (day_text payment.paid) payment.paid (day_text payment.for_day) payment.for_day
@@ -341,6 +351,7 @@ void_pay_line account number a n = record {
   other = refl;
   no_comment = refl;
   file = refl;
+  no_file = λ db. value_first db _ _ (name_value account a).1;
   few = λ h. omega arith;
   asks = λ today db. void_pay_asks today db account (decimal number) number
       (name_value account a).1 (number_text number n);
@@ -367,6 +378,7 @@ correct_report_line number account quarter cents n a q c = record {
   other = refl;
   no_comment = refl;
   file = refl;
+  no_file = λ db. value_first db _ _ (name_value account a).1;
   few = λ h. omega arith;
   asks = λ today db. correct_report_asks today db account (quarter_text quarter) quarter
       (decimal number) number (cents_text cents.0) cents (name_value account a).1
@@ -392,6 +404,7 @@ correct_report_year_line number account year cents n a y c = record {
   other = refl;
   no_comment = refl;
   file = refl;
+  no_file = λ db. value_first db _ _ (name_value account a).1;
   few = λ h. omega arith;
   asks = λ today db. correct_report_year_asks today db account (decimal year) year
       (decimal number) number (cents_text cents.0) cents (name_value account a).1
@@ -411,6 +424,7 @@ change_holiday_line number day is_holiday n d = record {
   other = refl;
   no_comment = refl;
   file = refl;
+  no_file = λ db. value_first db _ _ (day_value day).1;
   few = λ h. omega arith;
   asks = λ today db. change_holiday_asks today db (day_text day) day (decimal number) number
       (yes_no is_holiday) is_holiday (day_spells day d) (number_text number n)
@@ -434,6 +448,7 @@ correct_account_line number account start true n a d = record {
   other = refl;
   no_comment = refl;
   file = refl;
+  no_file = λ db. value_first db _ _ (name_value account a).1;
   few = λ h. omega arith;
   asks = λ today db. correct_account_asks today db account (decimal number) number
       (day_text start) start true (name_value account a).1 (number_text number n)
@@ -448,6 +463,7 @@ correct_account_line number account start false n a d = record {
   other = refl;
   no_comment = refl;
   file = refl;
+  no_file = λ db. value_first db _ _ (name_value account a).1;
   few = λ h. omega arith;
   asks = λ today db. correct_account_asks today db account (decimal number) number
       (day_text start) start false (name_value account a).1 (number_text number n)
