@@ -2,12 +2,12 @@
 use Rattle.std.proofs.Common.{◌≡◌, ℕ, zero, suc, Bool, true, false, List, [], ◌∷◌, ◌++◌, length}
 use Rattle.std.proofs.Common.{refl}
 use Rattle.std.proofs.Common.{cond, sym, ap, ◌∙◌, arith, lt-ltb, nat_lt}
-use Rattle.std.specs.Prelude.{◌==◌, codes, filter}
+use Rattle.std.specs.Prelude.{◌==◌, codes, filter, not}
 use Rattle.std.specs.List.{All, list_all}
 use Rattle.std.proofs.lemmas.Bool.{and_parts}
 use Rattle.std.proofs.lemmas.List.Splits.{slice_split_at}
 use Rattle.ftd_days.proofs.Years.{eq_not}
-use Rattle.ftd_replies.specs.Commands.{file_text, is_plain}
+use Rattle.ftd_replies.specs.Commands.{file_text, is_bare, is_plain}
 use Rattle.ftd_hinted.specs.Hinted.{IsFile, is_space, words_in}
 
 -- one byte or more, each of which is plain
@@ -61,9 +61,9 @@ next_word word space rest e s =
 -- what is shown for a file
 pub file_shown : (db : List ℕ) → IsFile db → is_shown (file_text db) ≡ true
 file_shown [] e = cc e
-file_shown (byte ∷ bytes) e = go (list_all is_plain (byte ∷ bytes)) refl
+file_shown (byte ∷ bytes) e = go (is_bare (byte ∷ bytes)) refl
   where
-    go : (b : Bool) → list_all is_plain (byte ∷ bytes) ≡ b
+    go : (b : Bool) → is_bare (byte ∷ bytes) ≡ b
         → is_shown (cond b (byte ∷ bytes) (codes "FILE")) ≡ true
-    go true e = e
+    go true e = (and_parts (not (byte == 45)) (list_all is_plain (byte ∷ bytes)) e).1
     go false e = refl

@@ -6,7 +6,8 @@ ghost use Rattle.std.specs.List.{flat_map, list_all};
 ghost use Rattle.ftd_ports.specs.Writing.{Writes};
 ghost use Rattle.ftd_replies.specs.Differing.{difference_text};
 ghost use Rattle.ftd_replies.specs.Hints.{account_in, calendar_text};
-ghost use Rattle.ftd_replies.specs.Commands.{command_of, command_on, file_text, is_plain};
+ghost use Rattle.ftd_replies.specs.Commands.{command_of, command_on, file_text, is_bare};
+ghost use Rattle.ftd_replies.specs.Commands.{is_plain};
 ghost use Rattle.ftd_replies.specs.Hints.{correct_text, days_in, days_text};
 ghost use Rattle.ftd_replies.specs.Hints.{entry_otherwise};
 ghost use Rattle.ftd_replies.specs.Hints.{differing_text, enrolled_as};
@@ -147,11 +148,21 @@ fn are_plain(bytes: &[u8]) -> bool
     bytes.iter().all(|byte| is_plain(*byte))
 }
 
+/// Whether a file's name needs no quotes, and is no option.
+fn is_bare(name: &[u8]) -> bool
+    ensures { result ≡ is_bare name.now }
+{
+    match name {
+        [] => false,
+        [first, ..] => *first != b'-' && are_plain(name),
+    }
+}
+
 /// The file, where its name needs no quotes, or else `FILE`.
 pub(crate) fn file_bytes(db: &str) -> &[u8]
     ensures { result.now ≡ file_text db.now }
 {
-    if are_plain(db.as_bytes()) {
+    if is_bare(db.as_bytes()) {
         db.as_bytes()
     } else {
         b"FILE"
