@@ -1,6 +1,9 @@
 -- What the program prints of an answer, and its exit status.
 use Rattle.std.specs.Prelude.{◌≡◌, ◌≢◌, ◌==◌, ◌⊎◌, ℕ, Bool, true, false, List, Option, Result}
-use Rattle.std.specs.Prelude.{Some, None, MatchBool, MatchResult, Ok, Err, [], codes}
+use Rattle.std.specs.Prelude.{Some, None, MatchBool, MatchResult, Ok, Err, [], ◌∷◌, codes}
+use Rattle.std.specs.Prelude.{◌<◌, ◌≤◌, ◌-◌, min}
+use Rattle.std.specs.Fmt.{decimal}
+use Rattle.std.specs.List.{concat}
 use Rattle.std.specs.Io.KnownBytes.{Appends}
 use Rattle.ftd_ports.specs.Writing.{WritesPrefix}
 use Rattle.sqlite.specs.State.{HasCleanDisk}
@@ -55,6 +58,7 @@ use Rattle.ftd_program.specs.Numbering.{FindsNumber, next_of, number_text}
 use Rattle.ftd_program.specs.RecordNotes.{PutsRefusals}
 use Rattle.ftd_program.specs.Summaries.{stop_status, stop_text, summary_status, summary_text}
 use Rattle.ftd_program.specs.declared.performing.JobEnd.{JobEnd}
+use Rattle.ftd_program.specs.declared.performing.TheConstants.{MOST_HINTS}
 
 -- a list is told as text in this format
 abbrev pub is_list_text : ListFormat → Bool
@@ -76,6 +80,23 @@ pub data PutsHints (before after : Option (List ℕ)) (failed : Bool) (hints : L
   whole : IsPut before after failed hints → PutsHints before after failed hints
   part : (between : Option (List ℕ)) → WritesPrefix before between hints
       → IsPut between after failed no_hints → PutsHints before after failed hints
+
+-- how many more records are malformed than have a hint each
+abbrev pub more_hint : ℕ → List ℕ
+more_hint count =
+    concat (codes "hint: and " ∷ decimal count ∷ codes " more records are malformed\n" ∷ [])
+
+-- the hints of the malformed records of a text were put, of the first 1,000 of them, and how many
+-- more there are; nothing where none is malformed
+pub record PutsMalformed {E : Type 0} (e_taken : E → Option (List ℕ)) (e_failed : E → Bool)
+    (err after : E) (kind : Sheet) (input : List ℕ) (malformed : ℕ) : Type 0 where
+  pub hinted : E
+  pub no_hint : malformed ≡ 0 → hinted ≡ err
+  pub hints : malformed ≢ 0 → PutsHints (e_taken err) (e_taken hinted) (e_failed hinted)
+      (record_hints kind (min malformed MOST_HINTS) input)
+  pub no_more : malformed ≤ MOST_HINTS → after ≡ hinted
+  pub more : MOST_HINTS < malformed → IsPut (e_taken hinted) (e_taken after) (e_failed after)
+      (more_hint (malformed - MOST_HINTS))
 
 module _ {O E : Type 0} (o_taken : O → Option (List ℕ)) (o_failed : O → Bool)
     (e_taken : E → Option (List ℕ)) (e_failed : E → Bool)
@@ -126,9 +147,7 @@ module _ {O E : Type 0} (o_taken : O → Option (List ℕ)) (o_failed : O → Bo
     pub no_note : summary.changes.entries.items ≡ [] → noted ≡ err
     pub told : E
     pub refusals : PutsRefusals e_taken noted told old new summary.refusals.entries.items
-    pub hints : summary.malformed ≢ 0 → PutsHints (e_taken told) (e_taken p.err) (e_failed p.err)
-        (record_hints kind summary.malformed input)
-    pub no_hint : summary.malformed ≡ 0 → p.err ≡ told
+    pub hints : PutsMalformed e_taken e_failed told p.err kind input summary.malformed
 
   abbrev pub PrintsSummary : Held → Held → Sheet → List ℕ → Summary → Type 0
   PrintsSummary old new kind input summary =

@@ -7,11 +7,13 @@ ghost use Rattle.ftd_program.specs.Performing.{Asks, AsksDue, Performs, Performs
 ghost use Rattle.ftd_program.specs.Performing.{PrintsAnswer, is_text};
 ghost use Rattle.ftd_program.specs.Performing.{PerformsImport, PerformsTrial, PrintsRefusal};
 ghost use Rattle.ftd_program.specs.Performing.{PrintsReply, PrintsStop, PrintsSummary, PutsHints};
+ghost use Rattle.ftd_program.specs.Performing.{PutsMalformed, more_hint};
 ghost use Rattle.ftd_machine.specs.Laws.{IsBounded};
 ghost use Rattle.ftd_machine.specs.declared.requests.Question.TheVariants.{DueList};
 ghost use Rattle.ftd_machine.specs.declared.requests.Request.TheVariants as requests;
 ghost use Rattle.ftd_csv.specs.Hints.{record_hints};
 ghost use Rattle.ftd_replies.specs.Below.{below_text};
+ghost use Rattle.ftd_ports.specs.Writing.{Writes};
 ghost use Rattle.ftd_replies.specs.Putting.{IsPut};
 ghost use Rattle.ftd_replies.specs.Replies.{reply_text};
 ghost use Rattle.ftd_program.specs.Summaries.{stop_status, stop_text, summary_status};
@@ -33,9 +35,10 @@ use ftd_days::{Day, Quarter};
 use ftd_desk::{Desk, DueFault};
 use ftd_imports::{ImportStop, Progress, StopCause, Summary, import, import_trial};
 use ftd_machine::{Answer, Question, Refusal, Reply, Request};
-use ftd_ports::Target;
+use ftd_ports::{Target, WriteFault, write_pieces};
 use ftd_replies::{HintFacts, put, status_of, write_below, write_reply, write_told};
 use ftd_verbs::AnswerFormat;
+use itoa::Buffer;
 use sqlite::Alter;
 use std::alloc::Global;
 
@@ -323,9 +326,7 @@ fn print_summary<S: Alter, O: Target, E: Target>(
             let mut err = err;
             put_added(&summary.changes, &mut err);
             put_refusals(alloc, desk, &summary.refusals, &mut err);
-            if summary.malformed > 0 {
-                put_hints(alloc, sheet, input, summary.malformed, &mut err);
-            }
+            put_malformed(alloc, sheet, input, summary.malformed, &mut err);
             JobEnd {
                 status: status_in(summary),
                 out,
@@ -333,6 +334,50 @@ fn print_summary<S: Alter, O: Target, E: Target>(
             }
         }
         Err(_) => fail_output(out, err),
+    }
+}
+
+/// So many malformed records have a hint each.
+const MOST_HINTS: usize = 1_000;
+
+/// Writes how many more records are malformed.
+fn write_more<W: Target>(count: usize, target: &mut W) -> Result<(), WriteFault>
+    ensures { Writes result (W.taken target.old) (W.taken target.new)
+        (W.failed target.new) (more_hint count) }
+{
+    let mut digits = Buffer::new();
+    let count = digits.format(count).as_bytes();
+    write_pieces(
+        target,
+        &[b"hint: and ", count, b" more records are malformed\n"],
+    )
+}
+
+/// Puts how many more records are malformed.
+fn put_more<E: Target>(count: usize, err: &mut E)
+    ensures { IsPut (E.taken err.old) (E.taken err.new) (E.failed err.new) (more_hint count) }
+{
+    // Where standard error fails, the status still tells.
+    let _ = write_more(count, err);
+}
+
+/// Puts the hints of so many malformed records of a text, of the first 1,000 of them, and how many
+/// more there are.
+fn put_malformed<E: Target>(
+    alloc: Global,
+    sheet: Sheet,
+    input: &[u8],
+    malformed: usize,
+    err: &mut E,
+)
+    ensures { PutsMalformed E.taken E.failed err.old err.new sheet input.now malformed }
+{
+    if malformed == 0 {
+        return;
+    }
+    put_hints(alloc, sheet, input, malformed.min(MOST_HINTS), err);
+    if malformed > MOST_HINTS {
+        put_more(malformed - MOST_HINTS, err);
     }
 }
 
