@@ -3,6 +3,7 @@ pub mod Ahead
 pub mod Home
 pub mod Serving
 pub mod Wires
+pub mod Watched
 pub mod Listening
 pub mod Served
 pub use Rattle.ftd_answers.specs.Fields

@@ -18,6 +18,7 @@ mod serving;
 mod socket;
 mod stop;
 mod timed;
+mod watched;
 mod wire;
 
 pub use crate::ahead::shown_until;
@@ -38,4 +39,5 @@ pub use crate::serving::serve_on;
 pub use crate::socket::Socket;
 pub use crate::stop::Stop;
 pub use crate::timed::{TimedStream, Timer};
+pub use crate::watched::{Watch, Watched};
 pub use crate::wire::{Waits, Wire};
