@@ -5,5 +5,7 @@
 mod room;
 mod waiting;
 mod watch;
+mod writable;
 
 pub use crate::room::{MOST_WAITING, Next, WaitingRoom};
+pub use crate::writable::takes_at_once;
