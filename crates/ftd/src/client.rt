@@ -18,6 +18,22 @@ const NO_LINE: &str = "\
 error: a word that is sent with --at is not empty, and has no blank, tab or line's end in it
 ";
 
+/// How the response of a server begins that can't answer.
+const FAILED: &[u8] = b"HTTP/1.1 500 ";
+
+/// What is told where it does.
+const CANNOT: &str = "the server can't answer";
+
+/// What is told where no server of a desk answers.
+const NOBODY: &str = "no ftd serve answers";
+
+/// Tells why the server at this port does not answer, and gives the exit status.
+fn tell_unanswered(rt: &HostRuntime, port: u16, why: &str) -> u8 {
+    // Where standard error fails, the status still tells.
+    let _ = eprint!(rt; "failed Net\nhint: {why} at port {port} of this machine\n");
+    3
+}
+
 /// Sends the line to the server, and reads its response.
 fn exchange(rt: &HostRuntime, port: u16, line: &str) -> Result<Vec<u8>, io::Error> {
     let mut stream = TcpStream::connect(rt, ("127.0.0.1", port))?;
@@ -54,13 +70,14 @@ fn tell_fault(rt: &HostRuntime, fault: &CliFault) -> u8 {
 /// Asks the server at this port what the line asks, prints what it answers, and gives the exit
 /// status.
 fn ask_at(rt: &HostRuntime, port: u16, line: &str) -> u8 {
-    if let Ok(response) = exchange(rt, port, line) {
-        if let Some(answer) = answer_in(rt.alloc(), &response) {
-            return print(rt, &answer);
-        }
+    let Ok(response) = exchange(rt, port, line) else {
+        return tell_unanswered(rt, port, NOBODY);
+    };
+    match answer_in(rt.alloc(), &response) {
+        Some(answer) => print(rt, &answer),
+        None if response.starts_with(FAILED) => tell_unanswered(rt, port, CANNOT),
+        None => tell_unanswered(rt, port, NOBODY),
     }
-    let _ = eprint!(rt; "failed Net\nhint: no ftd serve answers at port {port} of this machine\n");
-    3
 }
 
 /// Asks the server at the port of the words what they ask, prints what it answers, and gives the

@@ -2,6 +2,8 @@
 //! over the connections of a server, or asked of a server that runs.
 #![tactic(auto)]
 
+mod backup;
+mod checking;
 mod client;
 mod commands;
 mod jobs;
@@ -9,8 +11,11 @@ mod journal;
 mod lines;
 mod progress;
 mod server;
+mod server_lines;
 mod shell;
+mod watching;
 
+use crate::backup::backup;
 use crate::client::{ask, remote_of};
 use crate::jobs::{local, report_fault};
 use crate::server::serve_file;
@@ -60,6 +65,10 @@ fn done(rt: &HostRuntime, task: Task) -> u8 {
         Task::Plain(task) => plain(rt, &task),
         Task::Local(task) => local(rt, task),
         Task::Shell(task) => shell(rt, &task),
+        Task::Backup(task) => match backup(rt, &task) {
+            Ok(status) => status,
+            Err(fault) => report_fault(rt, fault, &task.db, &task.copy),
+        },
         Task::Serve(task) => match serve_file(rt, &task) {
             Ok(status) => status,
             Err(fault) => report_fault(rt, fault, &task.db, ""),

@@ -42,7 +42,8 @@ TellsAs view (Err fault.NoCommand) said = said ≡ Err fault.NoCommand
 abbrev pub Tells : {X : Type 0} → Result X WordFault → Result X WordFault → Type 0
 Tells {X} read said = TellsAs (λ (x : X). x) read said
 
--- what a subcommand asks: the deposits of pay runs from standard input; or a server, a shell, an
+-- what a subcommand asks: the deposits of pay runs from standard input; or a server, which checks
+-- its file as it starts or does not, a shell, a copy of the file, an
 -- import of a sheet, in earnest or on trial, a year of each account that has the year before open,
 -- that what is due on a day is recorded as paid, the journal of all or of one account, whether the
 -- tables are as requests made them, or a request to the desk in a database, for which so many
@@ -53,8 +54,10 @@ Tells {X} read said = TellsAs (λ (x : X). x) read said
 -- least number above all that its account has used.
 pub data Wanted : Type 0 where
   plain : (account : Text) (year : ℕ) (holidays : List ℕ) → Wanted
-  serve : (db : Text) (wait port connections idle silence duration : ℕ) → Wanted
+  serve : (db : Text) (wait port connections idle silence duration : ℕ) (is_unchecked : Bool)
+      → Wanted
   shell : (db : Text) (wait : ℕ) (script : Text) (has_echo has_stop : Bool) → Wanted
+  backup : (db : Text) (wait : ℕ) (copy : Text) → Wanted
   import : (db : Text) (wait : ℕ) (sheet : Sheet) (is_trial : Bool) (file : Text) → Wanted
   open_years : (db : Text) (wait year : ℕ) → Wanted
   settle : (db : Text) (wait : ℕ) (account : Text) (due paid : ℕ) → Wanted
@@ -93,7 +96,7 @@ serve_of rows =
     then_with (whole_in word.Idle rows) (λ idle.
     then_with (whole_in word.Silence rows) (λ silence.
     then_with (whole_in word.Duration rows) (λ duration.
-    Ok (serve db wait port connections idle silence duration))))))))
+    Ok (serve db wait port connections idle silence duration (is_given word.Unchecked rows)))))))))
 
 unfoldable pub shell_of : List Row → Result Wanted WordFault
 shell_of rows =
@@ -101,6 +104,13 @@ shell_of rows =
     then_with (whole_in word.Wait rows) (λ wait.
     then_with (text_in word.Script rows) (λ script.
     Ok (shell db wait script (is_given word.Echo rows) (is_given word.Stop rows)))))
+
+unfoldable pub backup_of : List Row → Result Wanted WordFault
+backup_of rows =
+    then_with (text_in word.Db rows) (λ db.
+    then_with (whole_in word.Wait rows) (λ wait.
+    then_with (text_in word.CopyFile rows) (λ copy.
+    Ok (backup db wait copy))))
 
 unfoldable pub import_of : Sheet → List Row → Result Wanted WordFault
 import_of sheet rows =
@@ -183,6 +193,7 @@ unfoldable pub wanted_of : Option ℕ → Name → List Row → Result Wanted Wo
 wanted_of today name.Plain rows = plain_of rows
 wanted_of today name.Serve rows = serve_of rows
 wanted_of today name.Shell rows = shell_of rows
+wanted_of today name.Backup rows = backup_of rows
 wanted_of today (name.Import sheet) rows = import_of sheet rows
 wanted_of today name.OpenYears rows = open_years_of rows
 wanted_of today name.Settle rows = settle_of today rows

@@ -33,6 +33,7 @@ name_text name.Serve = codes "serve"
 name_text name.Shell = codes "shell"
 name_text name.Journal = codes "journal"
 name_text name.Check = codes "check"
+name_text name.Backup = codes "backup"
 name_text (name.Import sheet) = sheet_text sheet
 name_text name.OpenYears = codes "open-years"
 name_text name.Settle = codes "settle"
@@ -50,11 +51,12 @@ abbrev pub words_of : Name → List Word
 words_of name.Plain = word.Field field.Account ∷ word.Field field.Year ∷ word.Holidays ∷ []
 words_of name.Serve =
     word.Db ∷ word.Wait ∷ word.Port ∷ word.Connections ∷ word.Idle ∷ word.Silence ∷ word.Duration
-    ∷ []
+    ∷ word.Unchecked ∷ []
 words_of name.Shell =
     word.Db ∷ word.Wait ∷ word.Echo ∷ word.Stop ∷ word.Script ∷ []
 words_of name.Journal = word.Db ∷ word.Wait ∷ word.JournalAccount ∷ []
 words_of name.Check = word.Db ∷ word.Wait ∷ []
+words_of name.Backup = word.Db ∷ word.Wait ∷ word.CopyFile ∷ []
 words_of (name.Import sheet) = word.Db ∷ word.Wait ∷ word.Check ∷ word.CsvFile ∷ []
 words_of name.OpenYears = word.Db ∷ word.Wait ∷ word.Field field.Year ∷ []
 words_of name.Settle =
@@ -110,6 +112,8 @@ word_text word.Connections = codes "connections"
 word_text word.Idle = codes "idle"
 word_text word.Silence = codes "silence"
 word_text word.Duration = codes "duration"
+word_text word.Unchecked = codes "unchecked"
+word_text word.CopyFile = codes "COPY"
 word_text word.CsvFile = codes "CSVFILE"
 word_text word.Check = codes "check"
 word_text word.Script = codes "SCRIPT"
@@ -132,6 +136,7 @@ is_kind_option other = false
 -- a word that stands behind two hyphens
 abbrev pub is_option : Word → Bool
 is_option word.CsvFile = false
+is_option word.CopyFile = false
 is_option word.Script = false
 is_option word.Holidays = false
 is_option word.JournalAccount = false
@@ -177,6 +182,8 @@ takes_of word.Idle = takes.Idle
 takes_of word.Silence = takes.Silence
 takes_of word.Duration = takes.Duration
 takes_of word.CsvFile = takes.Text
+takes_of word.CopyFile = takes.Text
+takes_of word.Unchecked = takes.Nothing
 takes_of word.Check = takes.Nothing
 takes_of word.Echo = takes.Nothing
 takes_of word.Stop = takes.Nothing
@@ -231,6 +238,7 @@ all_names =
     ∷ name.Verb verb.ChangeHoliday
     ∷ name.Journal
     ∷ name.Check
+    ∷ name.Backup
     ∷ name.Shell
     ∷ name.Plain
     ∷ name.Serve ∷ []

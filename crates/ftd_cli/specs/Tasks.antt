@@ -10,7 +10,8 @@ use Rattle.clap.specs.declared.error.ErrorKind.{ErrorKind}
 use Rattle.clap.specs.declared.error.ErrorKind.TheVariants as kind
 use Rattle.ftd_verbs.specs.declared.field.Field.TheVariants as field
 use Rattle.ftd_cli.specs.Apps.{ftd_app}
-use Rattle.ftd_cli.specs.Asking.{Wanted, ask, ask_next, check, import, journal, open_years, plain}
+use Rattle.ftd_cli.specs.Asking.{Wanted, ask, ask_next, backup, check, import, journal}
+use Rattle.ftd_cli.specs.Asking.{open_years, plain}
 use Rattle.ftd_cli.specs.Asking.{serve, settle, shell, then_with, wanted_of}
 use Rattle.ftd_cli.specs.Escapes.{escaped, escaped_word}
 use Rattle.ftd_cli.specs.Table.{all_names, may_be_today, name_text, word_text}
@@ -87,10 +88,12 @@ abbrev pub task_view : Task → Wanted
 task_view (task.Plain asked) = plain asked.account asked.year asked.holidays
 task_view (task.Serve asked) =
     serve (string_bytes asked.db) asked.wait asked.port asked.connections asked.idle asked.silence
-    asked.duration
+    asked.duration asked.is_unchecked
 task_view (task.Shell asked) =
     shell (string_bytes asked.db) asked.wait (string_bytes asked.script) asked.has_echo
     asked.has_stop
+task_view (task.Backup asked) =
+    backup (string_bytes asked.db) asked.wait (string_bytes asked.copy)
 task_view (task.Local local) = job_view (string_bytes local.db) local.wait local.job
 
 -- help or the version is asked for

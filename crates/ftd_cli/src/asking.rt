@@ -4,7 +4,8 @@
 ghost use Rattle.std.specs.Prelude.{◌≡◌, Ok};
 ghost use Rattle.clap.specs.Words.{first_of, found_of, rows_of};
 ghost use Rattle.std.specs.List.{list_any};
-ghost use Rattle.ftd_cli.specs.Asking.{Tells, TellsAs, account_in, asked_by, day_at, has_no_number};
+ghost use Rattle.ftd_cli.specs.Asking.{Tells, TellsAs, account_in, asked_by, backup_of, day_at};
+ghost use Rattle.ftd_cli.specs.Asking.{has_no_number};
 ghost use Rattle.ftd_cli.specs.Asking.{import_of, journal_of, open_years_of, plain_of, says_next};
 ghost use Rattle.ftd_cli.specs.Asking.{serve_of, settle_of, shell_of, wanted_of, wants_next};
 ghost use Rattle.ftd_cli.specs.Asking.{year_in};
@@ -15,7 +16,7 @@ ghost use Rattle.ftd_cli.specs.declared.table.Word.TheVariants.{JournalAccount};
 
 use crate::fault::WordFault;
 use crate::reading::{days_at, format_at, is_given, owned_text, port_at, text_at, whole_at};
-use crate::tasks::{Job, LocalTask, PlainTask, ServeTask, Settlement, ShellTask, Task};
+use crate::tasks::{BackupTask, Job, LocalTask, PlainTask, ServeTask, Settlement, ShellTask, Task};
 use crate::words::{Words, day_said, is_next};
 use crate::{Name, Word};
 use clap::ArgMatches;
@@ -87,6 +88,7 @@ fn serve(alloc: Global, inner: &ArgMatches<'_>) -> Result<Task, WordFault>
         idle,
         silence,
         duration,
+        is_unchecked: is_given(inner, Word::Unchecked),
     }))
 }
 
@@ -105,6 +107,17 @@ fn shell(alloc: Global, inner: &ArgMatches<'_>) -> Result<Task, WordFault>
         has_echo: is_given(inner, Word::Echo),
         has_stop: is_given(inner, Word::Stop),
     }))
+}
+
+/// What a copy asks.
+#[tactic(auto, unfolding(crate::specs::Asking::backup_of))]
+fn backup(alloc: Global, inner: &ArgMatches<'_>) -> Result<Task, WordFault>
+    ensures { TellsAs task_view result (backup_of (rows_of (found_of inner.now))) }
+{
+    let db = owned_text(alloc, inner, Word::Db)?;
+    let wait = whole_at(inner, Word::Wait)?;
+    let copy = owned_text(alloc, inner, Word::CopyFile)?;
+    Ok(Task::Backup(BackupTask { db, wait, copy }))
 }
 
 /// What an import of this sheet asks.
@@ -262,6 +275,7 @@ pub fn task_for(
         Name::Plain => plain(alloc, inner),
         Name::Serve => serve(alloc, inner),
         Name::Shell => shell(alloc, inner),
+        Name::Backup => backup(alloc, inner),
         Name::Import(sheet) => import(alloc, sheet, inner),
         Name::OpenYears => open_years(alloc, inner),
         Name::Settle => settle(alloc, today, inner),

@@ -46,6 +46,9 @@ const SHELL: &str = "Example: ftd shell --db office.db commands.txt\n\
 const JOURNAL: &str = "Example: ftd journal --db office.db > journal.txt\n\
     ftd shell --db new.db journal.txt makes the same desk of it.";
 
+const BACKUP: &str = "Example: ftd backup --db office.db office-2024-06-30.db\n\
+    The copy has all that was entered. A file that is there is never written over.";
+
 impl Name {
     /// What help says of it, in a line.
     pub fn about<'a>(self) -> &'a str {
@@ -55,6 +58,7 @@ impl Name {
             Name::Shell => "Answer commands, a line each; the file is opened once",
             Name::Journal => "Print the commands that make the same desk, or account",
             Name::Check => "Check that the file is as commands made it",
+            Name::Backup => "Copy the file into a new one, and check the copy",
             Name::Import(sheet) => sheet_about(sheet),
             Name::OpenYears => "Open a year of each account whose year before is open",
             Name::Settle => "Record what is left of the deposits due on a day as paid",
@@ -70,6 +74,7 @@ impl Name {
             Name::Shell => SHELL,
             Name::Journal => JOURNAL,
             Name::Check => "Example: ftd check --db office.db",
+            Name::Backup => BACKUP,
             Name::Import(sheet) => sheet_example(sheet),
             Name::OpenYears => "Example: ftd open-years --db office.db 2025",
             Name::Settle => SETTLE,
@@ -187,6 +192,8 @@ impl Word {
             Word::Idle => "How long a client may be idle between two requests, 1 to 3600",
             Word::Silence => "How long a read or a write waits for the client, 1 to 3600",
             Word::Duration => "How long one connection is served in all, 1 to 3600",
+            Word::Unchecked => "Start without a check of the file",
+            Word::CopyFile => "The file of the copy, which is made",
             Word::CsvFile => "The CSV file, under the header below; - is standard input",
             Word::Check => "Print what the import would print, and change nothing",
             Word::Script => "The file of the commands; - is standard input",

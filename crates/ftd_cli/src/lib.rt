@@ -24,5 +24,5 @@ pub use crate::file::with_file;
 pub use crate::lines::{Line, MOST_LINE, Piece, command_words, next_piece, read_line, shown_words};
 pub use crate::table::{NAMES, Name, Takes, Word};
 pub use crate::tasks::{
-    CliFault, Job, LocalTask, PlainTask, ServeTask, Settlement, ShellTask, Task,
+    BackupTask, CliFault, Job, LocalTask, PlainTask, ServeTask, Settlement, ShellTask, Task,
 };

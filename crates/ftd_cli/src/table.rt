@@ -8,8 +8,8 @@ ghost use Rattle.ftd_cli.specs.Table.{name_text, sheet_text, takes_file, takes_m
 ghost use Rattle.ftd_cli.specs.Table.{word_text, words_of, words_with};
 
 use Word::{
-    Check, Connections, CsvFile, Db, DueDay, Duration, Echo, Holidays, Idle, JournalAccount,
-    PaidDay, Port, Script, Silence, Stop, Wait,
+    Check, Connections, CopyFile, CsvFile, Db, DueDay, Duration, Echo, Holidays, Idle,
+    JournalAccount, PaidDay, Port, Script, Silence, Stop, Unchecked, Wait,
 };
 use ftd_csv::Sheet;
 use ftd_verbs::{Field, Formats, Kind, Verb};
@@ -58,6 +58,8 @@ pub enum Name {
     Journal,
     /// Whether the file is as commands made it is printed.
     Check,
+    /// A copy of the file is made.
+    Backup,
     /// A sheet of CSV is imported.
     Import(Sheet),
     /// A year is opened of each account that has the year before open.
@@ -85,6 +87,10 @@ pub enum Word {
     Silence,
     /// For how many seconds a connection is served.
     Duration,
+    /// A server does not check its file as it starts.
+    Unchecked,
+    /// The file that a copy is made in.
+    CopyFile,
     /// A file of CSV.
     CsvFile,
     /// The import is a trial.
@@ -152,6 +158,7 @@ impl Name {
             Name::Shell => "shell",
             Name::Journal => "journal",
             Name::Check => "check",
+            Name::Backup => "backup",
             Name::Import(sheet) => sheet_text(sheet),
             Name::OpenYears => "open-years",
             Name::Settle => "settle",
@@ -176,10 +183,20 @@ impl Name {
                 Word::Field(Field::Year),
                 Holidays,
             ],
-            Name::Serve => &[Db, Wait, Port, Connections, Idle, Silence, Duration],
+            Name::Serve => &[
+                Db,
+                Wait,
+                Port,
+                Connections,
+                Idle,
+                Silence,
+                Duration,
+                Unchecked,
+            ],
             Name::Shell => &[Db, Wait, Echo, Stop, Script],
             Name::Journal => &[Db, Wait, JournalAccount],
             Name::Check => &[Db, Wait],
+            Name::Backup => &[Db, Wait, CopyFile],
             Name::Import(_) => &[Db, Wait, Check, CsvFile],
             Name::OpenYears => &[Db, Wait, Word::Field(Field::Year)],
             Name::Settle => &[Db, Wait, Word::Field(Field::Account), DueDay, PaidDay],
@@ -271,6 +288,8 @@ impl Word {
             Word::Idle => "idle",
             Word::Silence => "silence",
             Word::Duration => "duration",
+            Word::Unchecked => "unchecked",
+            Word::CopyFile => "COPY",
             Word::CsvFile => "CSVFILE",
             Word::Check => "check",
             Word::Script => "SCRIPT",
@@ -291,6 +310,7 @@ impl Word {
     {
         match self {
             Word::CsvFile
+            | Word::CopyFile
             | Word::Script
             | Word::Holidays
             | Word::JournalAccount
@@ -306,14 +326,14 @@ impl Word {
         ensures { result ≡ takes_of self }
     {
         match self {
-            Word::Db | Word::CsvFile | Word::DueDay => Takes::Text,
+            Word::Db | Word::CsvFile | Word::CopyFile | Word::DueDay => Takes::Text,
             Word::Wait => Takes::Wait,
             Word::Port => Takes::Number(0, LAST_PORT),
             Word::Connections => Takes::Number(1, MOST_CONNECTIONS),
             Word::Idle => Takes::Idle,
             Word::Silence => Takes::Silence,
             Word::Duration => Takes::Duration,
-            Word::Check | Word::Echo | Word::Stop => Takes::Nothing,
+            Word::Check | Word::Echo | Word::Stop | Word::Unchecked => Takes::Nothing,
             Word::Script => Takes::Script,
             Word::JournalAccount | Word::PaidDay => Takes::Optional,
             Word::Holidays => Takes::Texts,
@@ -351,7 +371,7 @@ const LAST_PORT: i64 = 65_535;
 const MOST_CONNECTIONS: i64 = 1_000_000;
 
 /// The subcommands, as help lists them: in the order in which an employer needs them.
-pub const NAMES: [Name; 38] = [
+pub const NAMES: [Name; 39] = [
     Name::Verb(Verb::Calendar),
     Name::Verb(Verb::Enrol),
     Name::Verb(Verb::Report),
@@ -387,6 +407,7 @@ pub const NAMES: [Name; 38] = [
     Name::Verb(Verb::ChangeHoliday),
     Name::Journal,
     Name::Check,
+    Name::Backup,
     Name::Shell,
     Name::Plain,
     Name::Serve,

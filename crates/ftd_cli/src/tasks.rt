@@ -98,6 +98,19 @@ pub struct ServeTask {
     pub silence: u32,
     /// For how many seconds one connection is served at most.
     pub duration: u32,
+    /// Whether it starts without a check of the file.
+    pub is_unchecked: bool,
+}
+
+/// A copy of a database file is to be made, with what its log has.
+#[derive(Drop)]
+pub struct BackupTask {
+    /// The database file.
+    pub db: String,
+    /// How many seconds it waits while another program has the file open.
+    pub wait: u32,
+    /// The file of the copy, which is to be made.
+    pub copy: String,
 }
 
 /// The lines of a script are to be answered by the desk in a database, each as a command.
@@ -121,6 +134,7 @@ pub enum Task {
     Plain(PlainTask),
     Serve(ServeTask),
     Shell(ShellTask),
+    Backup(BackupTask),
     Local(LocalTask),
 }
 

@@ -28,6 +28,15 @@ pub enum ProgramFault {
     /// Another program left a journal beside the database file, which only it can play back.
     #[error("failed File")]
     Journal,
+    /// The disk has no room for what the database file is to hold.
+    #[error("failed File")]
+    Full,
+    /// The database file or its log was moved, replaced or cut short while it was served.
+    #[error("failed File")]
+    Moved,
+    /// The copy can't be made, and why.
+    #[error("failed File")]
+    Copy(ErrorKind),
     /// The input can't be read, and why.
     #[error("failed File")]
     Input(ErrorKind),
@@ -71,6 +80,7 @@ impl From<Error> for ProgramFault {
             Error::SqliteFailure(ErrorCode::DatabaseCorrupt) => ProgramFault::Corrupt,
             Error::SqliteFailure(ErrorCode::NotADatabase) => ProgramFault::NotOurs,
             Error::SqliteFailure(ErrorCode::OutOfMemory) => ProgramFault::Memory,
+            Error::SqliteFailure(ErrorCode::DiskFull) => ProgramFault::Full,
             _ => ProgramFault::File,
         }
     }

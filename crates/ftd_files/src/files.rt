@@ -17,21 +17,37 @@ use std::time::Duration;
 const TRIES: u64 = 20;
 
 /// The length of a log without frames, in bytes. A log has them only once its file is made.
-const EMPTY_LOG: u64 = 41;
+pub const EMPTY_LOG: u64 = 41;
 
 /// Whether the file is not there, and will be made. `Corrupt` if it holds nothing and is beside a
-/// log with frames: it was cut short, and is not a new one.
+/// log with frames: it was cut short, and is not a new one. `NotOurs` if it is one byte long, which
+/// no database is.
 pub fn is_new(rt: &HostRuntime, db: &str) -> Result<bool, ProgramFault> {
     let log = log_of(rt, db)?;
     let is_empty = fs::metadata(rt, db).is_ok_and(|it| it.len() < 2);
     if is_empty && fs::metadata(rt, log.as_str()).is_ok_and(|it| it.len() > EMPTY_LOG) {
         return Err(ProgramFault::Corrupt);
     }
+    if fs::metadata(rt, db).is_ok_and(|it| it.is_file() && it.len() == 1) {
+        return Err(ProgramFault::NotOurs);
+    }
     Ok(fs::exists(rt, db).is_ok_and(|is_there| !is_there))
 }
 
+/// Whether a name has a log that is empty.
+fn is_empty_log(rt: &HostRuntime, log: &str) -> bool {
+    fs::metadata(rt, log).is_ok_and(|it| it.is_file() && it.len() <= EMPTY_LOG)
+}
+
+/// Takes away the log that was made beside a file which can't be used, if it is empty.
+pub(crate) fn forget_log(rt: &HostRuntime, log: &str) {
+    if is_empty_log(rt, log) {
+        let _ = fs::remove_file(rt, log);
+    }
+}
+
 /// The name of the file's log, which is beside the file that a link leads to.
-pub(crate) fn log_of(rt: &HostRuntime, db: &str) -> Result<String, AllocError> {
+pub fn log_of(rt: &HostRuntime, db: &str) -> Result<String, AllocError> {
     match fs::canonicalize(rt, db) {
         Ok(path) => format!(in rt.alloc(); "{}-wal", path.as_str()),
         Err(_) => format!(in rt.alloc(); "{db}-wal"),

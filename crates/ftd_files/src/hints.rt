@@ -3,6 +3,7 @@
 use crate::faults::ProgramFault;
 use crate::files::has_log_name;
 use crate::folder::{has_folder, meant};
+use crate::kinds::is_of_other_kind;
 use ftd_cli::escape_word;
 use std::alloc::{AllocError, Global};
 use std::fs::{self, File};
@@ -12,13 +13,24 @@ use std::os::unix::fs::MetadataExt;
 /// Why a file can't be made.
 const NO_FOLDER: &str = "its folder is not there";
 
+/// Why a file can't be written.
+const FULL: &str = "the disk is full";
+
 /// Tells a fault, and below it what can be done about it: which of the files it is, and why. The
 /// hint is left out where there is no memory for it.
 pub fn tell_fault(rt: &HostRuntime, fault: ProgramFault, db: &str, input: &str) {
+    let fault = fault_in(rt, fault, db);
     // Where standard error fails as well, the status still tells.
     let _ = eprint!(rt; "{fault}\n");
     match fault {
         ProgramFault::Input(kind) => tell_file(rt, input, reason(kind)),
+        ProgramFault::Copy(kind) => tell_file(rt, input, copy_reason(kind)),
+        ProgramFault::Full => tell_file(rt, db, FULL),
+        ProgramFault::Moved => tell_file(
+            rt,
+            db,
+            "it or its -wal was moved, replaced or cut short while it was served",
+        ),
         ProgramFault::File => tell_file(rt, db, file_reason(rt, db)),
         ProgramFault::Missing => tell_missing(rt, db),
         ProgramFault::NotClosed => tell_log(rt, db),
@@ -43,6 +55,15 @@ pub fn tell_fault(rt: &HostRuntime, fault: ProgramFault, db: &str, input: &str) 
     }
 }
 
+/// The fault of a file: one that can't be read as a desk's, since it is a database of another kind,
+/// is none of the desk's, and not damaged.
+fn fault_in(rt: &HostRuntime, fault: ProgramFault, db: &str) -> ProgramFault {
+    match fault {
+        ProgramFault::Corrupt if is_of_other_kind(rt, db) => ProgramFault::NotOurs,
+        fault => fault,
+    }
+}
+
 /// Tells that the file was made, and which one may be meant, unless there is no memory for that.
 pub fn tell_made(rt: &HostRuntime, db: &str) {
     tell_other(rt, db, "it was not there, so ftd made it");
@@ -50,11 +71,18 @@ pub fn tell_made(rt: &HostRuntime, db: &str) {
 
 /// Tells that the file, or its folder, is not there.
 fn tell_missing(rt: &HostRuntime, db: &str) {
-    if has_folder(rt, db) {
+    if is_link(rt, db) {
+        tell_file(rt, db, "it is a link to a file that is not there");
+    } else if has_folder(rt, db) {
         tell_other(rt, db, reason(ErrorKind::NotFound));
     } else {
         tell_file(rt, db, NO_FOLDER);
     }
+}
+
+/// Whether the name is one of a link, wherever that leads.
+fn is_link(rt: &HostRuntime, name: &str) -> bool {
+    fs::symlink_metadata(rt, name).is_ok_and(|it| it.is_symlink())
 }
 
 /// Tells of a file that was not there, and which one of its folder may be meant.
@@ -121,6 +149,18 @@ fn reason(kind: ErrorKind) -> &'static str {
     }
 }
 
+/// Why a copy can't be made.
+fn copy_reason(kind: ErrorKind) -> &'static str {
+    match kind {
+        ErrorKind::AlreadyExists => "it is there already; a copy is made under a new name",
+        ErrorKind::NotFound => NO_FOLDER,
+        ErrorKind::StorageFull => FULL,
+        ErrorKind::PermissionDenied => "its folder can't be written",
+        ErrorKind::InvalidFilename => "its name is too long",
+        _ => "it can't be written",
+    }
+}
+
 /// Why a database file, which is made if it does not exist, can't be opened. Only a file is opened
 /// to see why: a pipe could wait.
 fn file_reason(rt: &HostRuntime, db: &str) -> &'static str {
@@ -139,7 +179,7 @@ fn file_reason(rt: &HostRuntime, db: &str) -> &'static str {
 
 /// Why a database file that does not exist can't be made.
 fn unmade_reason(rt: &HostRuntime, db: &str) -> &'static str {
-    if fs::symlink_metadata(rt, db).is_ok() {
+    if is_link(rt, db) {
         "it is a link to a file that can't be made"
     } else if !has_folder(rt, db) {
         NO_FOLDER

@@ -2,6 +2,7 @@
 //! faults of both.
 #![tactic(auto)]
 
+mod backup;
 mod clock;
 mod copies;
 mod faults;
@@ -9,11 +10,13 @@ mod files;
 mod folder;
 mod hints;
 mod input;
+mod kinds;
 mod opening;
 
+pub use crate::backup::make_copy;
 pub use crate::clock::SystemClock;
 pub use crate::faults::ProgramFault;
-pub use crate::files::{Supposes, SupposesNothing, is_new};
+pub use crate::files::{EMPTY_LOG, Supposes, SupposesNothing, is_new, log_of};
 pub use crate::hints::{tell_fault, tell_made, unread_text};
 pub use crate::input::{import_input, named_file, standard_input, words};
 pub use crate::opening::{DeskFiles, FileAt, close_desk, open_copy};

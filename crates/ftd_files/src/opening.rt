@@ -10,12 +10,13 @@ ghost use Rattle.ftd_files.specs.Resting.{KeepsInFiles, StandsOver};
 
 use crate::copies::copied;
 use crate::faults::ProgramFault;
-use crate::files::{Supposes, locked};
+use crate::files::{Supposes, forget_log, locked, log_of};
 use ftd_desk::Desk;
 use sqlite::{Connection, FileStore, Files, Options, Start};
 use sqlite_disk::{Disk, Memory};
 use sqlite_std_file::FileFrom;
 use std::alloc::Global;
+use std::fs;
 use std::hash::{BuildHasher, RandomState};
 
 /// After how many frames, of 4,120 bytes each, the log of a server is copied into its file.
@@ -111,13 +112,40 @@ pub struct FileAt<'a, B> {
     pub start: B,
 }
 
+/// The desk over the file of a name and its log, with a log that is to be short or may be long. An
+/// empty log that was made beside a file which can't be used is taken away again.
+fn open_at<S: Start, B: Supposes<S>>(
+    at: &FileAt<'_, B>,
+    has_short_log: bool,
+) -> Result<Desk<FileStore<FileFrom<S>>>, ProgramFault>
+    ensures stands { IfOk result
+        (λ desk. StandsOver (image_at S.Start) (held over_files desk)) }
+    ensures goes { IfOk result (λ desk. ¬ IsStopped desk) }
+{
+    let options = options_for(at.rt, has_short_log)?;
+    let log = log_of(at.rt, at.db)?;
+    let had_log = fs::exists(at.rt, log.as_str()).unwrap_or(true);
+    let files = locked(at.rt, at.db, at.wait, &at.start)?;
+    match open_over(at.rt.alloc(), files, options) {
+        Ok(desk) => Ok(desk),
+        Err(fault) => {
+            if matches!(fault, ProgramFault::NotOurs | ProgramFault::Corrupt) && !had_log {
+                forget_log(at.rt, log.as_str());
+            }
+            Err(fault)
+        }
+    }
+}
+
 impl<'a, S: Start, B: Supposes<S>> DeskFiles<FileFrom<S>> for FileAt<'a, B> {
     ghost image = { image_at S.Start };
 
+    // A log that can't be copied into the file, since the disk is full, stays as long as it is.
     fn open_desk(&self) -> Result<Desk<FileStore<FileFrom<S>>>, ProgramFault> {
-        let options = options_for(self.rt, self.has_short_log)?;
-        let files = locked(self.rt, self.db, self.wait, &self.start)?;
-        open_over(self.rt.alloc(), files, options)
+        match open_at(self, self.has_short_log) {
+            Err(ProgramFault::Full) if self.has_short_log => open_at(self, false),
+            opened => opened,
+        }
     }
 }
 

@@ -22,7 +22,7 @@ fn is_at(word: &str) -> bool {
 fn is_served(name: Name) -> bool {
     match name {
         Name::Verb(_) | Name::OpenYears | Name::Settle | Name::Journal | Name::Check => true,
-        Name::Plain | Name::Serve | Name::Shell | Name::Import(_) => false,
+        Name::Plain | Name::Serve | Name::Shell | Name::Backup | Name::Import(_) => false,
     }
 }
 

@@ -7,7 +7,7 @@ returns g c =
     record {
       new = c.into_desk.result;
       becomes = record {
-        start = c.args.shell;
+        start = c.args.watched;
         end = c.serve_on-taken.new.machine;
         starts = refl;
         ends = sym c.into_desk.ensures;
