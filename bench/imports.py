@@ -2,7 +2,8 @@
 """Imports pay runs by the program `ftd` and by a Python script with `csv` and `sqlite3` that keeps the same tables, of which it
 writes the rows of the runs alone, and computes nothing. Both take turns, five times each into a new file and five times again: the
 median of the times, and the peak memory. Then it imports random records, and compares the tables with those of the same records
-posted one by one. Then it kills 50 imports at random moments, imports again, and compares the tables with those of one import."""
+posted one by one. Then it kills 50 imports (or as many as KILLS
+of the environment says) at random moments, imports again, and compares the tables with those of one import."""
 
 import csv
 import os
@@ -210,7 +211,7 @@ def main():
     with tempfile.TemporaryDirectory() as folder:
         compare(folder, 10, 400, chosen)
     with tempfile.TemporaryDirectory() as folder:
-        kill(folder, 50, chosen)
+        kill(folder, int(os.environ.get("KILLS", "50")), chosen)
 
 
 main()

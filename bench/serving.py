@@ -7,7 +7,7 @@
 - A client that sends a byte a second inside a message: when its connection ends.
 - 10,000 messages in lists of 400 on one connection: each answer that was written has to arrive.
 - 1,000 messages with a body that their heads refuse (413 and 501): each answer has to be read.
-- 200 kills under posts at random moments: what was acknowledged has to be kept, and the file has to open; the size of the log.
+- 200 kills (or as many as KILLS of the environment says) under posts at random moments: what was acknowledged has to be kept, and the file has to open; the size of the log.
 - How long a question and a post take over connections of 100 messages, in a file on the disk and in one in memory: lists of 2,000. Of
   several programs, as an old one and a new one, this alone is tried: each message goes to each in turn. The share of the first one's
   time has the bounds between which 95 of 100 random choices of the hundreds lie."""
@@ -29,6 +29,7 @@ from office import SET_UP, STATUS, free_port, message_of, post_of, programs_of
 
 PROGRAMS = programs_of(sys.argv[1:])
 FTD = PROGRAMS[0]
+KILLS = int(os.environ.get("KILLS", "200"))
 LISTS = 2 if len(PROGRAMS) == 1 else 6
 
 
@@ -206,7 +207,7 @@ def kills(folder):
     db = new_desk(folder, "kills.db")
     random.seed(1)
     acknowledged, lost, logs = set(), 0, []
-    for turn in range(200):
+    for turn in range(KILLS):
         server = Server(FTD, db, 1_000_000)
         name = f"k{turn}"
         begin = closing([message_of(f"enrol {name} 2024-01-01"), message_of(f"open {name} 2024")])
@@ -230,7 +231,7 @@ def kills(folder):
         logs.append(os.path.getsize(f"{db}-wal"))
         if turn % 20 == 19:
             lost += len(acknowledged - kept_runs(db))
-    print(f"200 kills: {len(acknowledged)} posts acknowledged, {lost} lost; the log at a kill: "
+    print(f"{KILLS} kills: {len(acknowledged)} posts acknowledged, {lost} lost; the log at a kill: "
           f"{statistics.median(logs):.0f} bytes in the middle, {max(logs)} at most", flush=True)
 
 

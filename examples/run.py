@@ -59,14 +59,14 @@ class Step:
         """The command as it is asked of the server at the port, if it can be. A word in quotes is not sent, nor is a wait for the file or a time zone."""
         named = re.findall(r"\bftd ([a-z-]+)(?: --db office\.db)?", self.command)
         asked = self.command.replace(" --db office.db", f" --at {port}")
-        is_sent = named and not any(re.fullmatch(r"serve|shell|plain|help|import.*", it) for it in named)
+        is_sent = named and not any(re.fullmatch(r"serve|shell|backup|plain|help|import.*", it) for it in named)
         is_all = len(named) == self.command.count(" --db office.db") and not re.search(r"office\.db|FTD_DB|TZ=|--wait|--at=|\bftd [^|;&>]*['\"$]", asked.replace(f"--at {port}", ""))
         return asked if is_sent and is_all else None
 
     def shell_line(self):
         """The command as a line of `ftd shell` over office.db, if it can be one."""
         is_plain = re.fullmatch(r"ftd ([a-z-]+) --db office\.db(( [\w.,-]+)*)", self.command)
-        return is_plain and is_plain[1] not in ("serve", "shell") and f"{is_plain[1]}{is_plain[2]}"
+        return is_plain and is_plain[1] not in ("serve", "shell", "backup") and f"{is_plain[1]}{is_plain[2]}"
 
 
 class Example:
