@@ -4,12 +4,23 @@ use crate::{Name, Word};
 use ftd_csv::Sheet;
 use ftd_verbs::{Field, Formats, Verb};
 
+// How a desk is begun.
+const ENROL: &str = "Example: ftd enrol --db office.db elm 2024-05-01\n\
+    The database file is made if it is not there.";
+
+const CALENDAR: &str = "Example: ftd calendar --db office.db 2024 2024-01-01 2024-01-15\n\
+    The database file is made if it is not there.";
+
+const SERVE: &str = "Example: ftd serve --db office.db --port 8080 --connections 1000\n\
+    The database file is made if it is not there.";
+
 // How an import is used, with the header that its file has to have.
 const IMPORT_RUNS: &str = "Example: ftd import --db office.db runs.csv\n\
     The file's header: employer,run,payday,fit,ss,medicare";
 
 const IMPORT_ACCOUNTS: &str = "Example: ftd import-accounts --db office.db accounts.csv\n\
-    The file's header: employer,first_day,carried,form";
+    The file's header: employer,first_day,carried,form\n\
+    The database file is made if it is not there.";
 
 const IMPORT_REPORTED: &str = "Example: ftd import-reported --db office.db totals.csv\n\
     The file's header: employer,period,amount";
@@ -70,7 +81,7 @@ impl Name {
     pub fn example<'a>(self) -> &'a str {
         match self {
             Name::Plain => "Example: ftd plain elm 2024 2024-05-27 2024-07-04 < runs.csv",
-            Name::Serve => "Example: ftd serve --db office.db --port 8080 --connections 1000",
+            Name::Serve => SERVE,
             Name::Shell => SHELL,
             Name::Journal => JOURNAL,
             Name::Check => "Example: ftd check --db office.db",
@@ -129,8 +140,8 @@ fn sheet_about<'a>(sheet: Sheet) -> &'a str {
 /// How a verb is asked.
 fn verb_example<'a>(verb: Verb) -> &'a str {
     match verb {
-        Verb::Enrol => "Example: ftd enrol --db office.db elm 2024-05-01",
-        Verb::Calendar => "Example: ftd calendar --db office.db 2024 2024-01-01 2024-01-15",
+        Verb::Enrol => ENROL,
+        Verb::Calendar => CALENDAR,
         Verb::Report => "Example: ftd report --db office.db elm 2022Q3 12500.00",
         Verb::ReportYear => "Example: ftd report-year --db office.db rye 2022 50000.00",
         Verb::OpenYear => "Example: ftd open-year --db office.db elm 2024",
@@ -185,7 +196,7 @@ impl Word {
     /// What help says of it.
     pub fn help<'a>(self) -> &'a str {
         match self {
-            Word::Db => "The database file; made if it is not there; FTD_DB where it is left out",
+            Word::Db => "The database file; the file that FTD_DB names if it is left out",
             Word::Wait => "How long to wait while another program has the file open, 0 to 3600",
             Word::Port => "The port to listen at, 1 to 65535, or 0 for a free one",
             Word::Connections => "How many connections to accept before exiting",

@@ -113,16 +113,17 @@ fn tell_journal(rt: &HostRuntime, db: &str) {
     }
 }
 
-/// The hint that says of a file why it can't be used. Empty where it has no name.
+/// The hint that says of a file why it can't be used. An empty name is the name of no file, and is
+/// reason enough.
 fn file_hint(alloc: Global, name: &str, why: &str) -> Result<String, AllocError> {
     if name.is_empty() {
-        return Ok(String::new(alloc));
+        return String::from_str(alloc, "hint: the name of the file is empty\n");
     }
     let name = escape_word(alloc, name)?;
     format!(in alloc; "hint: {name}: {why}\n")
 }
 
-/// Tells of a file why it can't be used. Nothing where it has no name.
+/// Tells of a file why it can't be used.
 fn tell_file(rt: &HostRuntime, name: &str, why: &str) {
     if let Ok(hint) = file_hint(rt.alloc(), name, why) {
         let _ = eprint!(rt; "{hint}");
