@@ -9,3 +9,4 @@ pub mod HintsLeft
 pub mod Marks
 pub mod ShownFacts
 pub mod Texts
+pub mod RecordLists

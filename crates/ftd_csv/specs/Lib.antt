@@ -4,6 +4,7 @@ pub mod Records
 pub mod Answers
 pub mod Rows
 pub mod Places
+pub mod Lists
 pub mod Shown
 pub mod Headers
 pub mod FieldHints

@@ -6,6 +6,7 @@ mod entries;
 mod field_hints;
 mod fields;
 mod headers;
+mod lists;
 mod reading;
 mod records;
 mod rows;
@@ -14,6 +15,7 @@ mod shown;
 
 pub use crate::entries::Content;
 pub use crate::headers::write_header_hint;
+pub use crate::lists::{Place, RecordList, count_records, read_list};
 pub use crate::reading::{MOST_BYTES, RecordFault, Records};
 pub use crate::records::{HintFault, write_record_hints};
 pub use crate::sheets::Sheet;

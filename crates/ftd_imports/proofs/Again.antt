@@ -20,8 +20,10 @@ use Rattle.ftd_desk.specs.Trials.{Tries}
 use Rattle.ftd_desk.specs.Words.{AreAnswers, AreSteps, HandlesAll, HandlesTogether, is_fault}
 use Rattle.ftd_desk.proofs.Running.{all_none}
 use Rattle.ftd_imports.specs.Outcomes.{Counts, CountsAnswers, IsNothing, IsSame, IsSummary, Outcome}
-use Rattle.ftd_imports.specs.Outcomes.{answer_in, fault_in, fault_of, post_in, posted}
-use Rattle.ftd_imports.specs.Outcomes.{posts_of, record_in, request_in, skipped}
+use Rattle.ftd_imports.specs.Outcomes.{answer_in, fault_in, fault_of, posted}
+use Rattle.ftd_csv.specs.Lists.{post_in}
+use Rattle.ftd_imports.specs.Outcomes.{record_in, request_in, skipped}
+use Rattle.ftd_csv.specs.Lists.{posts_of}
 use Rattle.ftd_imports.specs.Imports.{AreOutcomes, Asks, HandlesOrLeaves, Posts, PostsNone, StopsIn}
 use Rattle.ftd_imports.specs.Imports.{StopsWithin, AsksAgain, most_together}
 use Rattle.ftd_imports.specs.Trials.{WouldPost}

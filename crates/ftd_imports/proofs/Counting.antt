@@ -9,11 +9,11 @@ use Rattle.ftd_csv.specs.declared.entries.Content.{Content}
 use Rattle.ftd_csv.specs.declared.entries.Content.TheVariants as content
 use Rattle.ftd_machine.specs.declared.requests.Request.{Request}
 use Rattle.ftd_machine.specs.Checks.{Answer}
-use Rattle.ftd_imports.specs.Lists.{has_post}
+use Rattle.ftd_csv.specs.Lists.{has_post}
 use Rattle.ftd_imports.specs.Outcomes.{Counts, Outcome, answer_in, posted, record_in, skipped}
-use Rattle.ftd_imports.specs.declared.reading.Place.{Place}
+use Rattle.ftd_csv.specs.declared.lists.Place.{Place}
 use Rattle.ftd_imports.specs.declared.summary.Summary.{Summary}
-use Rattle.ftd_imports.proofs.Places.{IsNext, is_malformed, is_entry}
+use Rattle.ftd_csv.proofs.RecordLists.{IsNext, is_malformed, is_entry}
 use Rattle.ftd_imports.proofs.Outcomes.{counts_then}
 
 -- some records were counted, and these answers are left

@@ -1,6 +1,5 @@
 pub mod Again
 pub mod Counting
-pub mod Places
 pub mod Texts
 pub mod Together
 pub mod Outcomes

@@ -8,15 +8,15 @@ use Rattle.ftd_csv.specs.declared.reading.Records.{Records}
 use Rattle.ftd_csv.specs.declared.sheets.Sheet.{Sheet}
 use Rattle.ftd_csv.proofs.Left.{records_first}
 use Rattle.ftd_desk.specs.Desks.{Held}
-use Rattle.ftd_imports.specs.Lists.{TakesList}
+use Rattle.ftd_csv.specs.Lists.{TakesList}
 use Rattle.ftd_imports.specs.Outcomes.{IsNothing}
 use Rattle.ftd_imports.specs.Imports.{AreOutcomes}
 use Rattle.ftd_imports.specs.Trials.{WouldImport, WouldPost}
-use Rattle.ftd_imports.specs.declared.reading.RecordList.{RecordList}
+use Rattle.ftd_csv.specs.declared.lists.RecordList.{RecordList}
 use Rattle.ftd_imports.specs.declared.summary.Summary.{Summary}
 use Rattle.ftd_imports.proofs.Counting.{nothing}
 use Rattle.ftd_imports.proofs.Outcomes.{summary_of}
-use Rattle.ftd_imports.proofs.Places.{left_count, length_left}
+use Rattle.ftd_csv.proofs.RecordLists.{left_count, length_left}
 
 -- as many as were left were taken: they are all of them
 pub all_taken : (old new : Records) (list : RecordList) (count : ℕ)

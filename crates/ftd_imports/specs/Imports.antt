@@ -17,7 +17,8 @@ use Rattle.ftd_desk.specs.Desks.{Held}
 use Rattle.ftd_desk.specs.Words.{HandlesAll, HandlesLeaving, HandlesTogether, MayLeaveAll}
 use Rattle.ftd_desk.specs.Words.{MayLeaveRun}
 use Rattle.ftd_imports.specs.Outcomes.{Counts, IsNothing, IsSummary, Outcome, answer_in, fault_in}
-use Rattle.ftd_imports.specs.Outcomes.{posts_of, record_in, request_in}
+use Rattle.ftd_imports.specs.Outcomes.{record_in, request_in}
+use Rattle.ftd_csv.specs.Lists.{posts_of}
 use Rattle.ftd_imports.specs.declared.summary.StopCause.{StopCause}
 use Rattle.ftd_imports.specs.declared.summary.StopCause.TheVariants as cause
 use Rattle.ftd_imports.specs.declared.summary.ImportStop.{ImportStop}

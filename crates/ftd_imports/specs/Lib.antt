@@ -4,7 +4,6 @@ pub mod Changed
 pub mod Collections
 pub mod Outcomes
 pub mod Imports
-pub mod Lists
 pub mod Refused
 pub mod Trials
 pub use Rattle.ftd_csv.specs.Answers

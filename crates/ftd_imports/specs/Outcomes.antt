@@ -21,15 +21,6 @@ use Rattle.ftd_imports.specs.Collections.{Collects, Follow}
 use Rattle.ftd_imports.specs.Refused.{refused_by}
 use Rattle.ftd_imports.specs.declared.refusals.RefusedRecord.{RefusedRecord}
 
--- the post of a record, which is what it enters
-abbrev pub post_in : ℕ × Content → Option Request
-post_in (number, content.Entry it) = Some it
-post_in (number, content.Malformed field) = None
-
--- the posts of records
-abbrev pub posts_of : List (ℕ × Content) → List Request
-posts_of records = filter_map post_in records
-
 -- what became of the record of this number: its entry was posted and answered so, or it was left
 -- out, malformed at this field
 pub data Outcome : Type 0 where

@@ -6,9 +6,8 @@ ghost use Rattle.ftd_imports.specs.Imports.{Imports, Stops, is_of_text};
 
 use crate::lists::post_lists;
 use crate::progress::Progress;
-use crate::reading::count_records;
 use crate::summary::{ImportStop, Summary, cause_of};
-use ftd_csv::Sheet;
+use ftd_csv::{Sheet, count_records};
 use ftd_desk::Desk;
 use sqlite::Alter;
 use std::alloc::Global;

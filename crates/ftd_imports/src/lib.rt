@@ -9,7 +9,6 @@ pub mod laws;
 mod lists;
 mod posting;
 mod progress;
-mod reading;
 mod refusals;
 mod summary;
 mod trial;

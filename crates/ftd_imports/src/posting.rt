@@ -5,12 +5,13 @@ ghost use Rattle.std.specs.Prelude.{OnErr, MatchResult, length, vec_len, vec_cap
 ghost use Rattle.ftd_csv.specs.declared.entries.Content.{Content};
 ghost use Rattle.ftd_csv.specs.declared.entries.Content.TheVariants as content;
 ghost use Rattle.ftd_desk.specs.Desks.{IsStopped, held};
-ghost use Rattle.ftd_imports.specs.Lists.{IsList, IsListOf, kept_of};
-ghost use Rattle.ftd_imports.specs.Outcomes.{IsSame, most_counted, posts_of, tally};
+ghost use Rattle.ftd_csv.specs.Lists.{IsList, IsListOf, kept_of};
+ghost use Rattle.ftd_imports.specs.Outcomes.{IsSame, most_counted, tally};
+ghost use Rattle.ftd_csv.specs.Lists.{posts_of};
 ghost use Rattle.ftd_imports.specs.Imports.{Posts, StopsAt, StopsIn};
 
-use crate::reading::{Place, RecordList};
 use crate::summary::{StopCause, Summary, fault_of};
+use ftd_csv::{Place, RecordList};
 use ftd_desk::Desk;
 use ftd_machine::Request;
 use sqlite::Alter;

@@ -5,15 +5,14 @@ ghost use Rattle.std.specs.Prelude.{length};
 ghost use Rattle.ftd_csv.specs.declared.entries.Content.{Content};
 ghost use Rattle.ftd_desk.specs.Desks.{held};
 ghost use Rattle.ftd_desk.specs.Telling.{StandsAsBefore};
-ghost use Rattle.ftd_imports.specs.Lists.{IsList, IsListOf};
+ghost use Rattle.ftd_csv.specs.Lists.{IsList, IsListOf};
 ghost use Rattle.ftd_imports.specs.Outcomes.{IsSame, most_counted, tally};
 ghost use Rattle.ftd_imports.specs.Trials.{FailsTrial, WouldImport, WouldPost};
 ghost use Rattle.ftd_imports.specs.declared.summary.StopCause.TheVariants as cause;
 
 use crate::lists::count_all;
-use crate::reading::{RecordList, count_records, read_list};
 use crate::summary::{ImportStop, StopCause, Summary, cause_of};
-use ftd_csv::Sheet;
+use ftd_csv::{RecordList, Sheet, count_records, read_list};
 use ftd_desk::Desk;
 use ftd_machine::Refusal;
 use sqlite::Alter;

@@ -1,8 +1,8 @@
 use Rattle.std.proofs.Common.{◌≡◌, rules, arith, ◌∙◌, ◌+◌, ◌∷◌, ap, drop, length, None}
-use Rattle.ftd_imports.specs.declared.reading.Place.{Place}
+use Rattle.ftd_csv.specs.declared.lists.Place.{Place}
 use Rattle.ftd_imports.proofs.Counting.{left_less, left_same, posted_more, skipped_more}
-use Rattle.ftd_imports.proofs.Places.{first_post, is_entry, later_posts, next_of, next_posts}
-use Rattle.ftd_imports.proofs.Places.{post_there, posts_passed}
+use Rattle.ftd_csv.proofs.RecordLists.{first_post, is_entry, later_posts, next_of, next_posts}
+use Rattle.ftd_csv.proofs.RecordLists.{post_there, posts_passed}
 use Rattle.ftd_imports.proofs.lists.count_all.Goals as goal
 use Rattle.ftd_imports.proofs.lists.count_all.Goals.{in-Some, in-None}
 

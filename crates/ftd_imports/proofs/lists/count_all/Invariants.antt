@@ -2,8 +2,9 @@ use Rattle.std.proofs.Common.{◌≡◌, ◌≤◌, ◌+◌, ℕ, List, length, 
 use Rattle.std.specs.Prelude.{vec_len, vec_capacity}
 use Rattle.std.specs.List.{filter}
 use Rattle.ftd_csv.specs.declared.entries.Content.{Content}
-use Rattle.ftd_imports.specs.Lists.{IsListOf, has_post}
-use Rattle.ftd_imports.specs.Outcomes.{posts_of, tally}
+use Rattle.ftd_csv.specs.Lists.{IsListOf, has_post}
+use Rattle.ftd_imports.specs.Outcomes.{tally}
+use Rattle.ftd_csv.specs.Lists.{posts_of}
 use Rattle.ftd_imports.proofs.Counting.{CountsSome}
 use Rattle.ftd_imports.proofs.lists.count_all.Given as goal
 

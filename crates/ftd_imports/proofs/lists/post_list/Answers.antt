@@ -3,7 +3,7 @@ use Rattle.ftd_desk.specs.Desks.{IsStopped, held}
 use Rattle.ftd_machine.specs.declared.requests.Request.{Request}
 use Rattle.ftd_imports.specs.Imports.{PostsNone, most_together}
 use Rattle.ftd_imports.proofs.Again.{list_again}
-use Rattle.ftd_imports.proofs.Places.{places_count}
+use Rattle.ftd_csv.proofs.RecordLists.{places_count}
 use Rattle.std.proofs.Common.{subst}
 use Rattle.ftd_imports.proofs.lists.post_list.Goals as goal
 

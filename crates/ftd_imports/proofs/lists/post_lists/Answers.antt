@@ -8,7 +8,7 @@ use Rattle.ftd_imports.specs.Imports.{Posts}
 use Rattle.ftd_imports.proofs.Again.{stops_later, stops_unread}
 use Rattle.ftd_imports.proofs.Counting.{nothing}
 use Rattle.ftd_imports.proofs.Outcomes.{posts_none, posts_then}
-use Rattle.ftd_imports.proofs.Places.{left_count, length_left, places_count}
+use Rattle.ftd_csv.proofs.RecordLists.{left_count, length_left, places_count}
 use Rattle.ftd_imports.proofs.lists.post_lists.Goals as goal
 
 pub loop-told-init : goal.loop-told-init

@@ -1,12 +1,12 @@
 use Rattle.std.proofs.Common.{◌∙◌, refl, sym, ap, length, List}
 use Rattle.std.specs.List.{filter}
 use Rattle.ftd_desk.specs.Desks.{IsStopped, held}
-use Rattle.ftd_imports.specs.Lists.{has_post}
-use Rattle.ftd_imports.specs.declared.reading.Place.{Place}
+use Rattle.ftd_csv.specs.Lists.{has_post}
+use Rattle.ftd_csv.specs.declared.lists.Place.{Place}
 use Rattle.ftd_imports.specs.declared.summary.Summary.{Summary}
 use Rattle.ftd_imports.proofs.Again.{none_posted, posts_together}
 use Rattle.ftd_imports.proofs.Outcomes.{on_err, with_room}
-use Rattle.ftd_imports.proofs.Places.{posts_count}
+use Rattle.ftd_csv.proofs.RecordLists.{posts_count}
 use Rattle.ftd_imports.proofs.lists.post_together.Goals as goal
 
 pub returns-in_err-answers-clause-none : goal.returns-in_err-answers-clause-none

@@ -3,9 +3,9 @@ use Rattle.std.proofs.Common.{drop, List, ℕ}
 use Rattle.ftd_csv.specs.declared.entries.Content.{Content}
 use Rattle.ftd_desk.specs.Desks.{IsStopped, held}
 use Rattle.ftd_imports.specs.Imports.{Posts}
-use Rattle.ftd_imports.specs.declared.reading.Place.{Place}
+use Rattle.ftd_csv.specs.declared.lists.Place.{Place}
 use Rattle.ftd_imports.proofs.Outcomes.{posts_none, posts_stop, posts_then}
-use Rattle.ftd_imports.proofs.Places.{next_of, next_posts, next_split, post_there}
+use Rattle.ftd_csv.proofs.RecordLists.{next_of, next_posts, next_split, post_there}
 use Rattle.ftd_imports.proofs.posting.post_all.Goals as goal
 
 pub loop-place-init : goal.loop-place-init

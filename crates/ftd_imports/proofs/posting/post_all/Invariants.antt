@@ -1,8 +1,9 @@
 use Rattle.std.proofs.Common.{◌≡◌, ◌≤◌, ◌+◌, ℕ, List, take, drop}
 use Rattle.ftd_csv.specs.declared.entries.Content.{Content}
 use Rattle.ftd_desk.specs.Desks.{IsStopped, held}
-use Rattle.ftd_imports.specs.Lists.{IsListOf}
-use Rattle.ftd_imports.specs.Outcomes.{posts_of, tally}
+use Rattle.ftd_csv.specs.Lists.{IsListOf}
+use Rattle.ftd_imports.specs.Outcomes.{tally}
+use Rattle.ftd_csv.specs.Lists.{posts_of}
 use Rattle.ftd_imports.specs.Imports.{Posts}
 use Rattle.ftd_imports.proofs.posting.post_all.Given as goal
 

@@ -4,7 +4,7 @@ use Rattle.ftd_desk.specs.Desks.{IsStopped, held}
 use Rattle.ftd_imports.specs.Imports.{Posts}
 use Rattle.ftd_imports.specs.declared.summary.Summary.{Summary}
 use Rattle.ftd_imports.proofs.Outcomes.{counts_then, no_room, posts_same, skips_one, with_room}
-use Rattle.ftd_imports.proofs.Places.{first_post, is_malformed, is_entry}
+use Rattle.ftd_csv.proofs.RecordLists.{first_post, is_malformed, is_entry}
 use Rattle.ftd_imports.proofs.posting.post_record.Goals as goal
 
 pub returns-in_default-clause-stops : goal.returns-in_default-clause-stops

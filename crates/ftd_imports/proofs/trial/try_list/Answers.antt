@@ -1,11 +1,11 @@
 use Rattle.std.proofs.Common.{◌∙◌, refl, sym, ap, length, List}
 use Rattle.std.specs.List.{filter}
 use Rattle.ftd_desk.specs.Desks.{held}
-use Rattle.ftd_imports.specs.Lists.{has_post}
-use Rattle.ftd_imports.specs.declared.reading.Place.{Place}
+use Rattle.ftd_csv.specs.Lists.{has_post}
+use Rattle.ftd_csv.specs.declared.lists.Place.{Place}
 use Rattle.ftd_imports.specs.declared.summary.Summary.{Summary}
 use Rattle.ftd_imports.proofs.Outcomes.{with_room}
-use Rattle.ftd_imports.proofs.Places.{posts_count}
+use Rattle.ftd_csv.proofs.RecordLists.{posts_count}
 use Rattle.ftd_imports.proofs.Again.{tried_together}
 use Rattle.ftd_imports.proofs.trial.try_list.Goals as goal
 

@@ -1,27 +1,34 @@
-//! Records are read into lists, which go to the desk together.
+//! Records are read into lists, which go on together.
 
 ghost use Rattle.std.specs.Prelude.{◌≡◌, ◌≤◌, ◌++◌, ◌∷◌, [], ℕ, List, IfOk, MatchResult, length};
 ghost use Rattle.ftd_csv.specs.Answers.{RecordsFail};
 ghost use Rattle.ftd_csv.specs.Places.{CanAdvance, Opens, place_of, rows_after};
 ghost use Rattle.ftd_csv.specs.declared.entries.Content.{Content};
-ghost use Rattle.ftd_imports.specs.Lists.{IsListOf, TakesList};
+ghost use Rattle.ftd_csv.specs.Lists.{IsListOf, TakesList};
 
-use ftd_csv::{Content, RecordFault, Records, Sheet};
+use crate::entries::Content;
+use crate::reading::{RecordFault, Records};
+use crate::sheets::Sheet;
 use ftd_machine::Request;
 use std::alloc::{AllocError, Global};
 
 /// The number of a record, and its least field that is bad, if it has one.
 #[derive(Clone, Copy, Debug)]
-pub(crate) struct Place {
-    pub(crate) number: u32,
-    pub(crate) malformed: Option<u8>,
+pub struct Place {
+    /// The number of the record; the header has number 1.
+    pub number: u32,
+    /// Its least field that is bad, counted from 1; 0 where it has more fields than the header, or
+    /// fewer. `None` if its entry is among the posts.
+    pub malformed: Option<u8>,
 }
 
 /// Some records: the place of each, and the posts of those that enter something.
 #[derive(Drop)]
-pub(crate) struct RecordList {
-    pub(crate) places: Vec<Place>,
-    pub(crate) posts: Vec<Request>,
+pub struct RecordList {
+    /// The place of each, in their order.
+    pub places: Vec<Place>,
+    /// The posts of those that enter something, in their order.
+    pub posts: Vec<Request>,
 }
 
 impl RecordList {
@@ -46,8 +53,8 @@ impl RecordList {
     }
 }
 
-/// So many of the next records. There are as many.
-pub(crate) fn read_list(
+/// So many of the next records. There are as many. An error if there is no memory.
+pub fn read_list(
     alloc: Global,
     records: &mut Records<'_>,
     count: usize,
@@ -68,8 +75,9 @@ pub(crate) fn read_list(
     Ok(list)
 }
 
-/// The records of a text of the sheet, and how many it has.
-pub(crate) fn count_records(
+/// The records of a text of the sheet, and how many it has. The faults are those of
+/// `Records::open`.
+pub fn count_records(
     alloc: Global,
     sheet: Sheet,
     text: &[u8],

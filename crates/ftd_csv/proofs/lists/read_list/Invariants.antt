@@ -1,8 +1,8 @@
 use Rattle.std.proofs.Common.{◌≡◌, ◌≤◌, ◌+◌, ◌++◌, ℕ, List, length}
 use Rattle.ftd_csv.specs.Places.{CanAdvance, records_left, rows_after}
 use Rattle.ftd_csv.specs.declared.entries.Content.{Content}
-use Rattle.ftd_imports.specs.Lists.{IsListOf}
-use Rattle.ftd_imports.proofs.reading.read_list.Given as goal
+use Rattle.ftd_csv.specs.Lists.{IsListOf}
+use Rattle.ftd_csv.proofs.lists.read_list.Given as goal
 
 -- the records that were taken, and those that are left
 abbrev pub invariant-loop : goal.invariant-loop

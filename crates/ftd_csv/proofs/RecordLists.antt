@@ -1,4 +1,4 @@
--- Lists of records, as the code keeps them.
+-- Lists of records.
 use Rattle.std.proofs.Common.{◌≡◌, ◌<◌, ◌+◌, ℕ, suc, List, [], ◌∷◌, ◌++◌, length, map}
 use Rattle.std.proofs.Common.{take, drop, get_or, drop-cons, add-one, Some, None, refl, sym, ap}
 use Rattle.std.proofs.Common.{arith}
@@ -12,10 +12,9 @@ use Rattle.ftd_csv.specs.declared.entries.Content.{Content}
 use Rattle.ftd_csv.specs.declared.entries.Content.TheVariants as content
 use Rattle.ftd_csv.specs.declared.reading.Records.{Records}
 use Rattle.ftd_machine.specs.declared.requests.Request.{Request}
-use Rattle.ftd_imports.specs.Lists.{IsListOf, has_post, kept_of}
-use Rattle.ftd_imports.specs.Outcomes.{post_in, posts_of}
-use Rattle.ftd_imports.specs.declared.reading.Place.{Place}
-use Rattle.ftd_imports.specs.declared.reading.RecordList.{RecordList}
+use Rattle.ftd_csv.specs.Lists.{IsListOf, has_post, kept_of, post_in, posts_of}
+use Rattle.ftd_csv.specs.declared.lists.Place.{Place}
+use Rattle.ftd_csv.specs.declared.lists.RecordList.{RecordList}
 
 -- ---- the records that are left
 length_numbered : (number : ℕ) (said : List Content)

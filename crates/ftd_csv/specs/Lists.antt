@@ -1,13 +1,23 @@
--- Records in a list, as the code keeps them. Private contracts speak of it.
+-- Records in a list: the place of each, and the posts of those that enter something.
 use Rattle.std.specs.Prelude.{◌≡◌, ◌++◌, ℕ, Bool, true, false, List, Option, None, Some, length}
 use Rattle.std.specs.Prelude.{map}
+use Rattle.std.specs.List.{filter_map}
 use Rattle.ftd_csv.specs.Places.{CanAdvance, records_left}
 use Rattle.ftd_csv.specs.declared.entries.Content.{Content}
 use Rattle.ftd_csv.specs.declared.entries.Content.TheVariants as content
 use Rattle.ftd_csv.specs.declared.reading.Records.{Records}
-use Rattle.ftd_imports.specs.Outcomes.{posts_of}
-use Rattle.ftd_imports.specs.declared.reading.Place.{Place}
-use Rattle.ftd_imports.specs.declared.reading.RecordList.{RecordList}
+use Rattle.ftd_machine.specs.declared.requests.Request.{Request}
+use Rattle.ftd_csv.specs.declared.lists.Place.{Place}
+use Rattle.ftd_csv.specs.declared.lists.RecordList.{RecordList}
+
+-- the post of a record, which is what it enters
+abbrev pub post_in : ℕ × Content → Option Request
+post_in (number, content.Entry it) = Some it
+post_in (number, content.Malformed field) = None
+
+-- the posts of records
+abbrev pub posts_of : List (ℕ × Content) → List Request
+posts_of records = filter_map post_in records
 
 -- what is kept of a record beside its post: its number, and its field that is bad, if it has one
 abbrev pub kept_of : ℕ × Content → Place

@@ -3,10 +3,9 @@ use Rattle.std.proofs.lemmas.List.{append-nil}
 use Rattle.ftd_csv.specs.Places.{place_of}
 use Rattle.ftd_csv.specs.declared.entries.Content.{Content}
 use Rattle.ftd_csv.specs.declared.entries.Content.TheVariants as content
-use Rattle.ftd_imports.specs.Lists.{kept_of}
-use Rattle.ftd_imports.specs.Outcomes.{posts_of}
-use Rattle.ftd_imports.proofs.Places.{list_more}
-use Rattle.ftd_imports.proofs.reading.RecordList.take.Goals as goal
+use Rattle.ftd_csv.specs.Lists.{kept_of, posts_of}
+use Rattle.ftd_csv.proofs.RecordLists.{list_more}
+use Rattle.ftd_csv.proofs.lists.RecordList.take.Goals as goal
 
 pub returns-in_ok-push-in-Entry-2 : goal.returns-in_ok-push-in-Entry-2
 returns-in_ok-push-in-Entry-2 c =
