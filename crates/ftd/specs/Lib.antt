@@ -3,7 +3,6 @@ pub mod Written
 pub mod Journals
 pub mod Commands
 pub mod Serving
-pub mod Checking
 pub use Rattle.ftd_desk.specs.Desks
 pub use Rattle.ftd_shell.specs.Scripts
 pub use Rattle.ftd_shell.specs.Shells

@@ -3,9 +3,9 @@
 use crate::progress::ProgressLine;
 use ftd_cli::{Job, LocalTask};
 use ftd_files::{
-    FileAt, ProgramFault, SupposesNothing, import_input, is_new, open_copy, tell_fault, tell_made,
+    FileAt, ProgramFault, SupposesNothing, import_input, is_new, tell_fault, tell_made,
 };
-use ftd_local::{Beginning, FileJob, Streams, beginning_of, do_and_drop, do_in_files};
+use ftd_local::{Beginning, FileJob, Streams, beginning_of, do_in_copy, do_in_files};
 use ftd_ports::Port;
 use std::io::{self, Printer, Stderr};
 
@@ -39,15 +39,24 @@ fn streams(rt: &HostRuntime) -> Streams<Port<Printer<'_, HostRuntime>>, Port<Std
     }
 }
 
-/// Does the job with the desk of its file.
-fn with_original(rt: &HostRuntime, wait: u32, asked: FileJob<'_>) -> Result<u8, ProgramFault> {
-    let files = FileAt {
+/// The file of a command, which opens it once.
+pub(crate) fn file_at<'a>(
+    rt: &'a HostRuntime,
+    db: &'a str,
+    wait: u32,
+) -> FileAt<'a, SupposesNothing> {
+    FileAt {
         rt,
-        db: asked.db,
+        db,
         wait,
         has_short_log: false,
         start: SupposesNothing,
-    };
+    }
+}
+
+/// Does the job with the desk of its file.
+fn with_original(rt: &HostRuntime, wait: u32, asked: FileJob<'_>) -> Result<u8, ProgramFault> {
+    let files = file_at(rt, asked.db, wait);
     let mut progress = ProgressLine::new(rt);
     let done = do_in_files(rt.alloc(), &files, asked, streams(rt), &mut progress)?;
     done.files?;
@@ -56,9 +65,10 @@ fn with_original(rt: &HostRuntime, wait: u32, asked: FileJob<'_>) -> Result<u8, 
 
 /// Does the job with the desk of a copy of its file.
 fn with_copy(rt: &HostRuntime, wait: u32, asked: FileJob<'_>) -> Result<u8, ProgramFault> {
-    let desk = open_copy(rt, asked.db, wait)?;
+    let files = file_at(rt, asked.db, wait);
     let mut progress = ProgressLine::new(rt);
-    Ok(do_and_drop(rt.alloc(), desk, asked, streams(rt), &mut progress).status)
+    let done = do_in_copy(rt.alloc(), &files, asked, streams(rt), &mut progress)?;
+    Ok(done.end.status)
 }
 
 /// Does the job with the desk of this file, and tells that the file was made, below what else is

@@ -5,7 +5,7 @@ ghost use Rattle.std.specs.String.{string_bytes};
 ghost use Rattle.ftd.specs.Commands.{file_of};
 ghost use Rattle.ftd.specs.Serving.{ServesFrom, ServesInFiles};
 
-use crate::checking::{checked, tell_checked};
+use crate::checking::tell_checked;
 use crate::commands::server_shell;
 use crate::server_lines::ServerLines;
 use crate::shell::Around;
@@ -14,6 +14,7 @@ use ftd_cli::{DayClock, ServeTask};
 use ftd_connections::{Arrivals, Limits, Watch, Watched, announce, serve_on};
 use ftd_desk::Desk;
 use ftd_files::{DeskFiles, FileAt, ProgramFault, SupposesNothing, close_desk, is_new, tell_made};
+use ftd_local::checked;
 use ftd_ports::{Port, Target};
 use ftd_shell::{Inputs, Shell};
 use ftd_waiting::WaitingRoom;

@@ -18,7 +18,7 @@ use Rattle.sqlite_wal.specs.Recovery.{Image}
 use Rattle.ftd_machine.specs.State.{State}
 use Rattle.ftd_entries.specs.Words.{IsKept}
 use Rattle.ftd_desk.specs.Desks.{Rests}
-use Rattle.ftd_files.specs.Resting.{HoldsState, RestsInFiles}
+use Rattle.ftd_files.specs.Resting.{HoldsState, RestsInFiles, alone}
 
 -- trees list one schema at most
 same_database : (db other : Database) → db.trees ≡ other.trees → IsDatabase db
@@ -57,6 +57,18 @@ held_by closed image s rests sound holds = record {
   holds = subst (λ (d : Database). ∥ HoldsDatabase image d.trees ∥₁) rests.committed holds.both;
 }
 
+-- and so do those of the file alone
+held_alone : {D : Type 0} {g : disk.Ghosts D} (closed : Held (FileStore D g)) (image : Image)
+    (s : State) → Rests (file_state closed) s → IsDatabase (file_state closed).now
+    → HoldsAlone image (file_state closed).committed.trees → HoldsState (alone image.db) s
+held_alone closed image s rests sound holds = record {
+  db = (file_state closed).now;
+  is_database = sound;
+  kept = rests.kept;
+  holds = subst (λ (d : Database). ∥ HoldsDatabase (alone image.db) d.trees ∥₁) rests.committed
+      holds.alone;
+}
+
 -- so the state rests in the files into which it is copied
 pub left : {D : Type 0} {g : disk.Ghosts D} (closed : Held (FileStore D g)) (files : Files D)
     (s : State) → Rests (file_state closed) s → IsLive (file_state closed) → IsCopied closed files
@@ -65,5 +77,6 @@ left closed files s rests live copied =
     let sound = (live copied.was_open).0 in
     record {
       now = held_by closed _ s rests sound copied.seen;
+      without_log = held_alone closed _ s rests sound copied.seen;
       after_crash = λ image may. held_by closed image s rests sound (copied.left image may);
     }

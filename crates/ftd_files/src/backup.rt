@@ -1,9 +1,6 @@
 //! A copy of a database file.
 
 use crate::faults::ProgramFault;
-use crate::opening::close_desk;
-use ftd_desk::Desk;
-use sqlite::FileStore;
 use sqlite_disk::Memory;
 use std::fs::{self, File, OpenOptions};
 use std::io::{self, Write};
@@ -31,15 +28,9 @@ fn make_file(rt: &HostRuntime, name: &str, bytes: &[u8]) -> io::Result<()> {
     written
 }
 
-/// Makes a file of this name with what a desk over a copy in memory holds: all in one file, with no
-/// log. `Copy` says why it can't be made.
-pub fn make_copy(
-    rt: &HostRuntime,
-    name: &str,
-    desk: Desk<FileStore<Memory>>,
-) -> Result<(), ProgramFault> {
-    let files = close_desk(desk)?;
-    match make_file(rt, name, files.db.bytes()) {
+/// Makes a file of this name with the bytes of a file in memory. `Copy` says why it can't be made.
+pub fn make_copy(rt: &HostRuntime, name: &str, copy: &Memory) -> Result<(), ProgramFault> {
+    match make_file(rt, name, copy.bytes()) {
         Ok(()) => Ok(()),
         Err(error) => Err(ProgramFault::Copy(error.kind())),
     }

@@ -19,4 +19,4 @@ pub use crate::faults::ProgramFault;
 pub use crate::files::{EMPTY_LOG, Supposes, SupposesNothing, is_new, log_of};
 pub use crate::hints::{tell_fault, tell_made, unread_text};
 pub use crate::input::{import_input, named_file, standard_input, words};
-pub use crate::opening::{DeskFiles, FileAt, close_desk, open_copy};
+pub use crate::opening::{CopiedDesk, DeskFiles, FileAt, close_copy, close_desk};

@@ -6,9 +6,10 @@ ghost use Rattle.sqlite.specs.State.{HasCleanDisk};
 ghost use Rattle.sqlite_wal.specs.Files.{image_at};
 ghost use Rattle.sqlite_wal.specs.Recovery.{Image};
 ghost use Rattle.ftd_desk.specs.Desks.{IsStopped, held};
-ghost use Rattle.ftd_files.specs.Resting.{KeepsInFiles, StandsOver};
+ghost use Rattle.ftd_files.specs.Resting.{ClosesHonest, IsCopied, KeepsAlone, KeepsInFiles};
+ghost use Rattle.ftd_files.specs.Resting.{StandsOver};
 
-use crate::copies::copied;
+use crate::copies::copies_of;
 use crate::faults::ProgramFault;
 use crate::files::{Supposes, forget_log, locked, log_of};
 use ftd_desk::Desk;
@@ -94,6 +95,41 @@ pub trait DeskFiles<D: Disk + Drop> {
     fn open_desk(&self) -> Result<Desk<FileStore<D>>, ProgramFault>
         ensures stands { IfOk result (λ desk. StandsOver image (held over_files desk)) }
         ensures goes { IfOk result (λ desk. ¬ IsStopped desk) };
+
+    /// Opens a desk over a copy of them in memory. Whatever is done with it, they keep their bytes.
+    /// It stands for each state for which these stand, if the disk told the truth as they were
+    /// read. It answers. An error says why they can't be used; they are closed then.
+    fn open_copy(&self) -> Result<CopiedDesk<D>, ProgramFault>
+        ensures copied { IfOk result
+            (λ it. IsCopied D.Disk image (held over_files it.desk) it.files) }
+        ensures goes { IfOk result (λ it. ¬ IsStopped it.desk) };
+}
+
+/// A desk over a copy in memory of files.
+#[derive(Drop)]
+pub struct CopiedDesk<D: Disk> {
+    /// The desk over the copy.
+    pub desk: Desk<FileStore<Memory>>,
+    /// The files. No other program opens them until they are let go.
+    pub files: Files<D>,
+}
+
+/// A desk over a copy in memory of these files.
+fn copy_over<D: Disk + Drop>(
+    alloc: Global,
+    files: Files<D>,
+    options: Options,
+) -> Result<CopiedDesk<D>, ProgramFault>
+    ensures copied { IfOk result
+        (λ it. IsCopied D.Disk (image_of D.Disk files) (held over_files it.desk) it.files) }
+    ensures goes { IfOk result (λ it. ¬ IsStopped it.desk) }
+{
+    let mut files = files;
+    let copies = copies_of(alloc, &mut files)?;
+    Ok(CopiedDesk {
+        desk: open_over(alloc, copies, options)?,
+        files,
+    })
 }
 
 /// The file of a name and its log, which are made if they are not there. No other program opens
@@ -147,25 +183,26 @@ impl<'a, S: Start, B: Supposes<S>> DeskFiles<FileFrom<S>> for FileAt<'a, B> {
             opened => opened,
         }
     }
-}
 
-/// The desk over a copy in memory of the file and its log: whatever is done with it, the file keeps
-/// its bytes. If another program has the file open, it is tried again for that many seconds.
-pub fn open_copy(
-    rt: &HostRuntime,
-    db: &str,
-    wait: u32,
-) -> Result<Desk<FileStore<Memory>>, ProgramFault>
-    ensures { IfOk result (λ desk. ¬ IsStopped desk) }
-{
-    let options = usual_options(rt)?;
-    open_over(rt.alloc(), copied(rt, db, wait)?, options)
+    // An empty log that was made for the copy is taken away again.
+    fn open_copy(&self) -> Result<CopiedDesk<FileFrom<S>>, ProgramFault> {
+        let options = usual_options(self.rt)?;
+        let log = log_of(self.rt, self.db)?;
+        let had_log = fs::exists(self.rt, log.as_str()).unwrap_or(true);
+        let files = locked(self.rt, self.db, self.wait, &self.start)?;
+        let opened = copy_over(self.rt.alloc(), files, options);
+        if !had_log {
+            forget_log(self.rt, log.as_str());
+        }
+        opened
+    }
 }
 
 /// Closes the files of a desk, and gives them back: each state for which it stood rests in them.
 /// `NotClosed` if the log can't be copied into the file: what was committed is in the log then.
 pub fn close_desk<D: Disk + Drop>(desk: Desk<FileStore<D>>) -> Result<Files<D>, ProgramFault>
-    ensures { IfOk result (λ files. KeepsInFiles D.Disk (held over_files desk) files) }
+    ensures keeps { IfOk result (λ files. KeepsInFiles D.Disk (held over_files desk) files) }
+    ensures honest { IfOk result (λ files. ClosesHonest D.Disk (held over_files desk) files) }
 {
     let conn = desk.close();
     // Of any connection the engine says here that its trees list its schema.
@@ -177,4 +214,12 @@ pub fn close_desk<D: Disk + Drop>(desk: Desk<FileStore<D>>) -> Result<Files<D>, 
             Err(ProgramFault::NotClosed)
         }
     }
+}
+
+/// Closes the desk over a copy, and gives back its file in memory, which holds each state for which
+/// the desk stood, with no log beside it. The faults are those of `close_desk`.
+pub fn close_copy(desk: Desk<FileStore<Memory>>) -> Result<Memory, ProgramFault>
+    ensures { IfOk result (KeepsAlone (held over_files desk)) }
+{
+    Ok(close_desk(desk)?.db)
 }

@@ -1,7 +1,6 @@
 //! A job over the desk of files, which are opened and closed.
 
 ghost use Rattle.std.specs.Prelude.{IfOk};
-ghost use Rattle.ftd_desk.specs.declared.desk.Desk.{Desk};
 ghost use Rattle.ftd_program.specs.Doing.{Does};
 ghost use Rattle.ftd_local.specs.Jobs.{DoesFrom, DoesInFiles};
 
@@ -46,7 +45,7 @@ pub struct FilesEnd<D: Disk, O, E> {
 }
 
 /// Does a job with a desk.
-fn do_with<S: Alter, O: Target, E: Target, P: Progress>(
+pub(crate) fn do_with<S: Alter, O: Target, E: Target, P: Progress>(
     alloc: Global,
     desk: &mut Desk<S>,
     asked: FileJob<'_>,
@@ -103,19 +102,4 @@ where
 {
     let desk = files.open_desk()?;
     Ok(over_desk(alloc, desk, asked, streams, progress))
-}
-
-/// Does a job with a desk, which is let go. Over a copy in memory the file keeps its bytes.
-pub fn do_and_drop<S: Alter + Drop, O: Target, E: Target, P: Progress>(
-    alloc: Global,
-    desk: Desk<S>,
-    asked: FileJob<'_>,
-    streams: Streams<O, E>,
-    progress: &mut P,
-) -> JobEnd<O, E>
-    ensures { (new : Desk S) × Does S.Store O.taken O.failed E.taken E.failed streams.out
-        streams.err result desk new asked.entry.input.now asked.entry.db.now asked.entry.job }
-{
-    let mut desk = desk;
-    do_with(alloc, &mut desk, asked, streams, progress)
 }

@@ -3,9 +3,13 @@
 #![tactic(auto)]
 
 mod beginning;
+mod checking;
+mod copies;
 mod jobs;
 mod scripts;
 
 pub use crate::beginning::{Beginning, beginning_of};
-pub use crate::jobs::{FileJob, FilesEnd, Streams, do_and_drop, do_in_files};
+pub use crate::checking::{Checked, checked};
+pub use crate::copies::{Backup, CopyEnd, back_up, do_in_copy};
+pub use crate::jobs::{FileJob, FilesEnd, Streams, do_in_files};
 pub use crate::scripts::{FileScript, answer_in_files};

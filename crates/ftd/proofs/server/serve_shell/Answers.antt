@@ -15,5 +15,5 @@ returns g c =
         lines = lines;
         takes = takes;
       };
-      keeps = c.close_desk.ensures;
+      keeps = c.close_desk.ensures.keeps;
     }

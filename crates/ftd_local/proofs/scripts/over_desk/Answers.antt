@@ -4,5 +4,5 @@ pub returns : goal.returns
 returns g c = record {
   new = c.into_desk.result;
   becomes = rw c.into_desk.ensures c.answer_script-end.ensures.answers;
-  keeps = c.close_desk.ensures;
+  keeps = c.close_desk.ensures.keeps;
 }

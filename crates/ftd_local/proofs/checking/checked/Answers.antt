@@ -1,6 +1,6 @@
 use Rattle.std.proofs.Common.{◌∙◌, ap, ℕ}
 use Rattle.std.specs.Global.{Vec}
-use Rattle.ftd.proofs.checking.checked.Goals as goal
+use Rattle.ftd_local.proofs.checking.checked.Goals as goal
 
 pub returns : goal.returns
 returns g c = record {
