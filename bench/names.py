@@ -30,6 +30,7 @@ ALLOWED = {
     *("isatty", "fdatasync", "touch", "strace", "--help", "--version", "cksumvfs"),  # the system's, its commands, clap's options, a part of SQLite
     *("--at", "open_files_with", "open_with_sums"),  # the option of the client, which is no word of the table; calls of `sqlite` that are told of
     *("clap_mangen", "clap_complete"),  # crates that are not used
+    *("~/.local/share/doc/ftd", "compinit"),  # where the tar file is unpacked, and a word of zsh
 }
 
 
@@ -56,7 +57,7 @@ def words(crate):
     """The words of a crate's code; where none is named of all, with those of scripts and examples."""
     texts = [text for it, text in code().items() if it.startswith(f"crates/{crate}/" if crate else "")]
     if not crate:
-        scripts = files("*.py", "*.sh", "*.txt", "bench/**/*", "examples/**/*", "crates/*/must-fail/*")
+        scripts = files("*.py", "*.sh", "*.txt", "bench/**/*", "examples/**/*", "package/*", "crates/*/must-fail/*")
         texts += [*CRATES, *scripts, *map(read, scripts)]
     return {word for text in texts for word in re.findall(r"\w+", text)}
 
