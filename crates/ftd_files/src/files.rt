@@ -4,6 +4,7 @@ ghost use Rattle.std.specs.Prelude.{IfOk, false, true};
 ghost use Rattle.sqlite_std_file.specs.File.{IsFresh};
 
 use crate::faults::ProgramFault;
+use crate::kinds::is_lone_byte;
 use sqlite::{Files, Start, Unknown};
 use sqlite_std_file::FileFrom;
 use std::alloc::AllocError;
@@ -20,15 +21,15 @@ const TRIES: u64 = 20;
 pub const EMPTY_LOG: u64 = 41;
 
 /// Whether the file is not there, and will be made. `Corrupt` if it holds nothing and is beside a
-/// log with frames: it was cut short, and is not a new one. `NotOurs` if it is one byte long, which
-/// no database is.
+/// log with frames: it was cut short, and is not a new one. `NotOurs` if it is one byte long, but for
+/// the 0 by which the engine begins a file, and which stays where that fails.
 pub fn is_new(rt: &HostRuntime, db: &str) -> Result<bool, ProgramFault> {
     let log = log_of(rt, db)?;
     let is_empty = fs::metadata(rt, db).is_ok_and(|it| it.len() < 2);
     if is_empty && fs::metadata(rt, log.as_str()).is_ok_and(|it| it.len() > EMPTY_LOG) {
         return Err(ProgramFault::Corrupt);
     }
-    if fs::metadata(rt, db).is_ok_and(|it| it.is_file() && it.len() == 1) {
+    if is_lone_byte(rt, db) {
         return Err(ProgramFault::NotOurs);
     }
     Ok(fs::exists(rt, db).is_ok_and(|is_there| !is_there))

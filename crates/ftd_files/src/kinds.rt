@@ -1,6 +1,6 @@
-//! Databases of kinds that a desk's file is not.
+//! Files of kinds that a desk's file is not.
 
-use std::fs::File;
+use std::fs::{self, File};
 use std::io::{self, Read};
 
 /// How a database of SQLite begins.
@@ -14,6 +14,20 @@ fn head_of(rt: &HostRuntime, name: &str) -> io::Result<[u8; 100]> {
     let mut head = [0; 100];
     File::open(rt, name)?.read_exact(&mut head)?;
     Ok(head)
+}
+
+/// The first byte of a file.
+fn first_byte(rt: &HostRuntime, name: &str) -> io::Result<u8> {
+    let mut head = [0; 1];
+    File::open(rt, name)?.read_exact(&mut head)?;
+    Ok(head[0])
+}
+
+/// Whether the file of this name is one byte long, which no database is. No if that is a 0, by
+/// which the engine begins a file, or if it can't be read.
+pub(crate) fn is_lone_byte(rt: &HostRuntime, name: &str) -> bool {
+    fs::metadata(rt, name).is_ok_and(|it| it.is_file() && it.len() == 1)
+        && first_byte(rt, name).is_ok_and(|byte| byte != 0)
 }
 
 /// Whether the head is one of a database whose texts are UTF-16, or that gives pages back to the
