@@ -10,10 +10,11 @@ prints with memory, but for an import, which prints what it did up to there. A c
 open the file: the imports take some ten minutes on four processors, and the tutorial an hour.
 `bench/refused_program.py [PROGRAM [NAME ..]]` takes the program and which examples.
 """
+import functools
 import multiprocessing
 import os
-import shlex
 import shutil
+import sqlite3
 import subprocess
 import sys
 import tempfile
@@ -31,6 +32,9 @@ EXAMPLES = {
     "years": ("examples/deposits.txt", "A void reaches each later year that opens otherwise"),
     "tutorial": ("docs/TUTORIAL.md", "A bakery's first year, and a farm"),
 }
+FILES = ("office.db", "office.db-wal")
+# What stands for the program while bash makes the words of its commands: it notes each word on a line, and an empty line below them.
+NOTING = '#!/bin/bash\nprintf "%s\\n" "$@" "" >>"$NOTED"\n'
 
 
 def example(name):
@@ -46,19 +50,39 @@ def run(folder, words, library=None, number=0):
         env.update(LD_PRELOAD=library, REFUSE=str(number), REFUSE_COUNT="1")
     done = subprocess.run([program_of(sys.argv[1:2]), *words], capture_output=True, cwd=folder, env=env, stdin=subprocess.DEVNULL)
     told = done.stderr.decode().split("\n")[:-1]
-    calls = int(told.pop().split()[0]) if library else 0
+    calls = int(told.pop().split()[0]) if told and told[-1].endswith(" calls") else 0
     return (done.returncode, done.stdout.decode(), [it for it in told if not it.startswith("hint: ")]), calls
 
 
+def files_of(folder):
+    """The bytes of the desk's file and its log, None for one that is not there."""
+    paths = [os.path.join(folder, name) for name in FILES]
+    return tuple(open(path, "rb").read() if os.path.exists(path) else None for path in paths)
+
+
+@functools.lru_cache(64)
+def rows_in(files):
+    """All rows of the tables of such files. They are read in a copy, since sqlite3 copies the log into the file where it reads."""
+    with tempfile.TemporaryDirectory(dir="/dev/shm") as folder:
+        for name, held in zip(FILES, files):
+            if held is not None:
+                with open(os.path.join(folder, name), "wb") as file:
+                    file.write(held)
+        try:
+            return tables(os.path.join(folder, FILES[0])) if files[0] is not None else {}
+        except sqlite3.Error as fault:
+            return {"no tables": [str(fault)]}
+
+
 def rows_of(folder):
-    file = os.path.join(folder, "office.db")
-    return tables(file) if os.path.exists(file) else {}
+    """All rows of the tables of the desk's file in the folder."""
+    return rows_in(files_of(folder))
 
 
 def put(source, folder):
     """The folder holds the same files."""
     shutil.rmtree(folder, ignore_errors=True)
-    shutil.copytree(source, folder)
+    shutil.copytree(source, folder, symlinks=True)
 
 
 def is_failed(said, right, is_import):
@@ -68,14 +92,14 @@ def is_failed(said, right, is_import):
 
 
 def states_within(here, words, folder):
-    """The tables after each of the first records of an import."""
+    """What is said of each of the first records of an import, and the tables after them."""
     text = open(os.path.join(here, words[-1]), encoding="utf-8").read().splitlines(keepends=True)
     for end in range(1, len(text)):
         put(here, folder)
         with open(os.path.join(folder, words[-1]), "w", encoding="utf-8") as page:
             page.write("".join(text[:end]))
-        run(folder, words)
-        yield rows_of(folder)
+        said, _ = run(folder, words)
+        yield said, rows_of(folder)
 
 
 def tried(job):
@@ -90,7 +114,7 @@ def tried(job):
     is_new = not before and all(not rows for name, rows in found.items() if name != "ftd_meta")
     if not is_failed(said, right, words[0] == "import") or not (found in fine or is_new):
         return True, f"{words}, allocation {number}: {said}"
-    if found != before:
+    if files_of(folder) != files_of(here):
         run(folder, words)
         if rows_of(folder) != fine[0]:
             return True, f"{words}, allocation {number}: the command run again leaves other tables"
@@ -98,46 +122,60 @@ def tried(job):
 
 
 def refused(here, words, library, folder, pool):
-    """Refuses each allocation of the command; how many there were, and how often it failed."""
+    """Refuses each allocation of the command; how many there were, how often it failed, and how often that was wrong."""
     put(here, folder)
     right, calls = run(folder, words, library)
     before, fine = rows_of(here), [rows_of(folder)]
     fine += [before]
     if words[0] == "import":
-        fine += list(states_within(here, words, folder))
+        fine += [rows for _, rows in states_within(here, words, folder)]
     jobs = ((here, words, library, number, right, before, fine) for number in range(1, calls + 1))
-    failed = 0
-    for has_failed, wrong in pool.imap_unordered(tried, jobs, 64):
-        if wrong:
-            raise SystemExit(wrong)
-        failed += has_failed
-    return calls, failed
+    failed = wrong = 0
+    for has_failed, what in pool.imap_unordered(tried, jobs, 64):
+        failed, wrong = failed + has_failed, wrong + bool(what)
+        if what:
+            print(what, flush=True)
+    return calls, failed, wrong
 
 
-def prepare(step, here):
-    """Does what a command that is not the program's does to the files."""
-    name = step.command.removeprefix("cat ")
-    if step.command.startswith("cat ") and not os.path.exists(os.path.join(here, name)):
+def commands_of(step, here):
+    """The words of each command of the program in the step, as bash makes them. What else the step does to the files is done."""
+    name = step.file_name()
+    if name and not os.path.exists(os.path.join(here, name)):
         with open(os.path.join(here, name), "w", encoding="utf-8") as page:
             page.write("".join(f"{line}\n" for line in step.printed))
-    else:
-        subprocess.run(["bash", "-c", step.command], cwd=here, check=True, stdout=subprocess.DEVNULL)
+        return []
+    with tempfile.TemporaryDirectory() as room:
+        noted, stand_in = os.path.join(room, "noted"), os.path.join(room, "ftd")
+        for path, text in ((noted, ""), (stand_in, NOTING)):
+            with open(path, "w", encoding="utf-8") as file:
+                file.write(text)
+        os.chmod(stand_in, 0o755)
+        env = {**os.environ, "PATH": f"{room}:{os.environ['PATH']}", "NOTED": noted}
+        subprocess.run(["bash", "-c", step.command], cwd=here, check=True, stdout=subprocess.DEVNULL, env=env)
+        with open(noted, encoding="utf-8") as file:
+            return [it.split("\n") for it in file.read().split("\n\n")[:-1]]
+
+
+def begin(here):
+    """A new folder for an example, with a link to what is beside its text."""
+    os.mkdir(here)
+    os.symlink(os.path.join(TOP, "examples"), os.path.join(here, "examples"))
 
 
 def through(name, library, top, pool):
-    """Runs the commands of the example one after the other, each with each of its allocations refused before."""
+    """Runs the commands of the example one after the other, each with each of its allocations refused before; how often that was wrong."""
     here, folder = os.path.join(top, name), os.path.join(top, "tried")
-    os.mkdir(here)
-    commands = allocations = failures = 0
+    begin(here)
+    commands = allocations = failures = wrong = 0
     for step in example(name).steps:
-        if step.first_word() != "ftd":
-            prepare(step, here)
-            continue
-        words = shlex.split(step.command)[1:]
-        calls, failed = refused(here, words, library, folder, pool)
-        run(here, words)
-        commands, allocations, failures = commands + 1, allocations + calls, failures + failed
-    print(f"{name}: {commands} commands, {allocations} allocations refused, {failures} failures told, 0 wrong", flush=True)
+        for words in commands_of(step, here):
+            calls, failed, of_these = refused(here, words, library, folder, pool)
+            run(here, words)
+            commands, allocations, failures, wrong = commands + 1, allocations + calls, failures + failed, wrong + of_these
+            print(f"{name}, {commands}: {' '.join(words[:1])}: {allocations} refused, {failures} told, {wrong} wrong", file=sys.stderr, flush=True)
+    print(f"{name}: {commands} commands, {allocations} allocations refused, {failures} failures told, {wrong} wrong", flush=True)
+    return wrong
 
 
 def main():
@@ -146,9 +184,8 @@ def main():
         source = os.path.join(TOP, "bench", "refuse.c")
         subprocess.run(["gcc", "-shared", "-fPIC", "-O1", "-o", library, source, "-ldl"], check=True)
         with multiprocessing.Pool() as pool:
-            for name in sys.argv[2:] or EXAMPLES:
-                through(name, library, top, pool)
+            return bool(sum(through(name, library, top, pool) for name in sys.argv[2:] or EXAMPLES))
 
 
 if __name__ == "__main__":
-    main()
+    sys.exit(main())

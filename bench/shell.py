@@ -4,9 +4,11 @@
     bench/shell.py [PROGRAM [ROUNDS [ACCOUNTS ..]]]
 
 ROUNDS times (200 if none is given) a shell is sent pay runs line by line and killed at a random moment: each run that was answered has to be in the
-file, and no run that was not sent. Then one posts until its file may not grow further: it has to end with status 3, name the line, and keep
-each run that was answered. Then scripts of 10,000 and of 100,000 lines are answered, whose greatest memory is compared. Then an office of so many
-accounts with ten years (1,000 if none is given) is asked a thousand questions, and sent a thousand runs, by a shell and over HTTP.
+file, and no run that was not sent. As many times a command that posts a run is killed at a random moment: if it answered, the run has to be in the
+file, as all runs before it have to be, and the same command again has to post the run, or to say that it is there. Then a shell posts until its
+file may not grow further: it has to end with status 3, name the line, and keep each run that was answered. Then scripts of 10,000 and of 100,000
+lines are answered, whose greatest memory is compared. Then an office of so many accounts with ten years (1,000 if none is given) is asked a thousand
+questions, and sent a thousand runs, by a shell and over HTTP.
 """
 
 import contextlib
@@ -70,17 +72,52 @@ def killed(program, db, chosen):
     return set(range(1, answered + 1)) <= kept <= set(range(1, sent + 3))
 
 
+def begin_anew(program, db):
+    """Makes the file anew."""
+    for file in (db, f"{db}-wal"):
+        if os.path.exists(file):
+            os.remove(file)
+    begin(program, db)
+
+
 def kills(program, folder, rounds):
     """How many of so many shells that were killed did not keep what they answered."""
     db, chosen, wrong = f"{folder}/killed.db", random.Random(rounds), 0
     for number in range(rounds):
         if number % 50 == 0:
-            for file in (db, f"{db}-wal"):
-                if os.path.exists(file):
-                    os.remove(file)
-            begin(program, db)
+            begin_anew(program, db)
         wrong += not killed(program, db, chosen)
     return wrong
+
+
+def killed_post(words, journal, number, wait):
+    """Whether a command that posts a run is killed before it ends, whether the run was kept, and whether all is as it has to be then."""
+    command = subprocess.Popen(words, stdout=subprocess.PIPE, stderr=subprocess.DEVNULL, text=True)
+    time.sleep(wait)
+    command.kill()
+    said = command.communicate()[0]
+    lines = subprocess.run(journal, stdout=subprocess.PIPE, text=True, check=True).stdout.splitlines()
+    runs = {int(line.split()[2]) for line in lines if line.startswith("post elm ")}
+    again = subprocess.run(words, stdout=subprocess.PIPE, stderr=subprocess.DEVNULL, text=True)
+    is_kept = number in runs
+    is_right = runs - {number} == set(range(1, number)) and (is_kept or not said) and again.returncode == 0
+    return command.returncode != 0, is_kept, is_right and again.stdout.startswith("already" if is_kept else "posted ")
+
+
+def kills_of_posts(program, folder, rounds):
+    """How many of so many posts were killed before they ended, how many of these had kept their run, and how many were wrong."""
+    db, chosen, found = f"{folder}/posted.db", random.Random(rounds), []
+    for turn in range(rounds):
+        number = turn % 50 + 1
+        if number == 1:
+            begin_anew(program, db)
+        verb, *rest = post(number).split()
+        start = time.perf_counter()
+        subprocess.run([program, "status", "--db", db, "elm", "2024-05-08"], check=True, stdout=subprocess.DEVNULL, stderr=subprocess.DEVNULL)
+        wait = chosen.random() * 1.5 * (time.perf_counter() - start)
+        found.append(killed_post([program, verb, "--db", db, *rest], [program, "journal", "--db", db], number, wait))
+    killed_before = [it for it in found if it[0]]
+    return len(killed_before), sum(is_kept for _, is_kept, _ in killed_before), sum(not is_right for *_, is_right in found)
 
 
 def no_room():
@@ -153,6 +190,7 @@ def main():
     rounds = int(sys.argv[2]) if len(sys.argv) > 2 else 200
     with tempfile.TemporaryDirectory() as folder:
         print(f"killed {rounds} times: {kills(program, folder, rounds)} did not keep what was answered", flush=True)
+        print(f"{rounds} posts killed: %d before they ended, of which %d had kept the run; %d wrong" % kills_of_posts(program, folder, rounds), flush=True)
         print("full disk: status %d, %s, %s, what was answered is kept: %s" % fills(program, folder), flush=True)
         print(f"memory: {memory(program, folder, 10_000)} kB for 10,000 lines, {memory(program, folder, 100_000)} kB for 100,000", flush=True)
         for accounts in map(int, sys.argv[3:] or ["1000"]):
