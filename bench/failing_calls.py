@@ -6,7 +6,7 @@ list its calls, and then once for each of these and each error that fits its kin
 has to print what it prints else, with the same status, and leave the same tables; only a hint may be missing, or a line of standard error
 that could not be written. Or else it says first that memory, the store, the file or standard output failed, and ends with status 3: then what it
 printed is the beginning of what it prints else, the tables are those before it or those after it, and those after it if all of its answer was
-printed. An import may stop at one of its records: then the tables are those of the records before it, and it counted no more of them. Standard
+printed; the notes of that stand above the line of the fault. An import may stop at one of its records: then the tables are those of the records before it, and it counted no more of them. Standard
 output is told to have failed exactly where a call that wrote to it did, and memory only where a call was refused for want of it. Whatever came
 of it, the same command is run again, with nothing that fails, on what is there: it prints what it prints else, or what it prints a second time, and
 leaves the tables of the command alone.
@@ -96,16 +96,22 @@ def is_part(lines, whole):
     return all(it in rest for it in lines)
 
 
+def fault_of(said):
+    """The line that says what failed: the first one of standard error, or the first below the notes of an answer."""
+    return next((it for it in said.told if not it.startswith("note: ")), None)
+
+
 def is_told(call, way, said, found, states, is_import):
     """Whether the command says that it failed, as it has to, with such tables."""
-    if said.status != 3 or not said.told or said.told[0] not in (*FAULTS, OUTPUT):
+    fault = fault_of(said)
+    if said.status != 3 or fault not in (*FAULTS, OUTPUT):
         return False
-    if (said.told[0] == OUTPUT) != (call.kind in WRITES and call.file == 1):
+    if (fault == OUTPUT) != (call.kind in WRITES and call.file == 1):
         return False
-    if said.told[0] == FAULTS[0] and "ENOMEM" not in way and call.kind != "brk":
+    if fault == FAULTS[0] and "ENOMEM" not in way and call.kind != "brk":
         return False
     at = [it for it, (_, rows) in enumerate(states) if rows == found]
-    if is_import and said.told[0] != OUTPUT:
+    if is_import and fault != OUTPUT:
         counted = [it for it, (out, _) in enumerate(states) if out == said.out]
         return bool(at and counted) and min(counted) <= max(at)
     right = states[-1][0]
@@ -121,7 +127,7 @@ def outcome(call, way, said, found, right, states, is_import):
     if call.is_loader and said.status != 0 and not said.out and found == states[0][1]:
         return "not begun"
     if is_told(call, way, said, found, states, is_import):
-        return f"{said.told[0]}{', Corrupt' if any(it.startswith('Corrupt') for it in said.told) else ''}"
+        return f"{fault_of(said)}{', Corrupt' if any(it.startswith('Corrupt') for it in said.told) else ''}"
     return None
 
 
