@@ -4,16 +4,18 @@
 It needs strace. Each command of an example's text (the examples of refused_program.py) is run on the files that the commands before it left: once to
 list its calls, and then once for each of these and each error that fits its kind. That call is not made, and answered by the error. Then the command
 has to print what it prints else, with the same status, and leave the same tables; only a hint may be missing, or a line of standard error
-that could not be written. Or else it says first that memory, the store, the file or standard output failed, and ends with status 3: then what it
-printed is the beginning of what it prints else, the tables are those before it or those after it, and those after it if all of its answer was
-printed; the notes of that stand above the line of the fault. An import may stop at one of its records: then the tables are those of the records before it, and it counted no more of them. Standard
-output is told to have failed exactly where a call that wrote to it did, and memory only where a call was refused for want of it. Whatever came
-of it, the same command is run again, with nothing that fails, on what is there: it prints what it prints else, or what it prints a second time, and
-leaves the tables of the command alone.
+that could not be written. Or else it says that memory, the store, the file or standard output failed, in the first line of standard error, or
+the first below the notes of its answer, and ends with status 3: then what it printed is the beginning of what it prints else, and the tables are
+those before it or those after it, and those after it if all of its answer was printed. An import may stop at one of its records: then the tables are
+those of the records before it, and it counted no more of them. Standard output is told to have failed exactly where a call that wrote to it did, and
+memory only where a call was refused for want of it. Whatever came of it, the same command is run again, with nothing that fails, on what is there: it
+prints what it prints else, or what it prints a second time, and leaves the tables of the command alone.
 
 A call that begins the program or ends it can't be refused sensibly. Those by which the system's loader reads the program's libraries are tried too:
-where one of these fails, the program may not begin, print nothing and change nothing, which is counted apart. `bench/failing_calls.py [PROGRAM [NAME ..]]` takes the program and which examples. Below
-the line of an example there is a line for each kind of call and error: how many were tried, and what came of them.
+where one of these fails, the program may not begin, print nothing and change nothing, which is counted apart.
+
+`bench/failing_calls.py [PROGRAM [NAME ..]]` takes the program and which examples. Below the line of an example there is a line for each kind of call
+and error: how many were tried, and what came of them.
 """
 import collections
 import multiprocessing
