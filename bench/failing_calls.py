@@ -141,6 +141,9 @@ def tried(job):
     inject = f"inject={call.kind}:{way}:when={call.number}"
     said = run(folder, words, ["strace", "-f", "--seccomp-bpf", "-qq", "-o", "/dev/null", "-e", f"trace={call.kind}", "-e", inject])
     found = kept_in(folder)
+    if "no tables" in found and not states[0][1]:
+        # A new file that was not made to its end is none that sqlite3 reads: the second run says whether the program takes it as new.
+        found = {}
     came, wrong = outcome(call, way, said, found, right, states, words[0] == "import"), None
     name = f"{' '.join(words)}: {call.kind} {call.number}{f' of file {call.file}' if call.file >= 0 else ''}, {way}"
     if came is None:
