@@ -3,8 +3,8 @@
 
 It needs strace. Each command of an example's text (the examples of refused_program.py) is run on the files that the commands before it left: once to
 list its calls, and then once for each of these and each error that fits its kind. That call is not made, and answered by the error. Then the command
-has to print what it prints else, with the same status, and leave the same tables; only a hint may be missing, or a line of standard error
-that could not be written. Or else it says that memory, the store, the file or standard output failed, in the first line of standard error, or
+has to print what it prints else, with the same status, and leave the same tables; only a hint may be missing, or a line or its end that
+standard error did not take. Or else it says that memory, the store, the file or standard output failed, in the first line of standard error, or
 the first below the notes of its answer, and ends with status 3: then what it printed is the beginning of what it prints else, and the tables are
 those before it or those after it, and those after it if all of its answer was printed. An import may stop at one of its records: then the tables are
 those of the records before it, and it counted no more of them. Standard output is told to have failed exactly where a call that wrote to it did, and
@@ -93,9 +93,9 @@ def kept_in(folder):
 
 
 def is_part(lines, whole):
-    """Whether the lines are some of the whole ones, in their order."""
+    """Whether the lines are some of the whole ones, in their order, each whole or cut short."""
     rest = iter(whole)
-    return all(it in rest for it in lines)
+    return all(any(other.startswith(it) for other in rest) for it in lines)
 
 
 def fault_of(said):
