@@ -2,14 +2,15 @@
 """Refuses each allocation of the program in turn, through every command of worked examples.
 
 It needs gcc. Each command of an example's text (examples/, docs/TUTORIAL.md) is run on the file that the commands before it left,
-with one allocation refused. It has to print what it prints with memory and leave the same tables; or say that there was no memory,
+with one allocation refused to a second process of it (refuse.c). It has to print what it prints with memory and leave the same tables; or say that there was no memory,
 or that the store or the file failed, and end with status 3. Then the tables are those before the command, or those of an import up
 to one of its records, or, where the store failed, those after the command; and where they are not those before it, the command run
 again, with memory, ends with the tables of the command alone. What a command printed before it failed is the beginning of what it
-prints with memory, but for an import, which prints what it did up to there. A command makes some 7,000 allocations, most of them to
-open the file: the imports take some ten minutes on four processors, and the tutorial an hour.
+prints with memory, but for an import, which prints what it did up to there. A command makes some 10,000 allocations, most of them to
+open the file: the tutorial takes a quarter of an hour on four processors.
 `bench/refused_program.py [PROGRAM [NAME ..]]` takes the program and which examples.
 """
+import contextlib
 import functools
 import multiprocessing
 import os
@@ -33,6 +34,8 @@ EXAMPLES = {
     "tutorial": ("docs/TUTORIAL.md", "A bakery's first year, and a farm"),
 }
 FILES = ("office.db", "office.db-wal")
+# The program begins with memory at hand, since the system is slow to give it page by page.
+TUNABLES = "glibc.malloc.top_pad=33554432"
 # What stands for the program while bash makes the words of its commands: it notes each word on a line, and an empty line below them.
 NOTING = '#!/bin/bash\nprintf "%s\\n" "$@" "" >>"$NOTED"\n'
 
@@ -102,40 +105,68 @@ def states_within(here, words, folder):
         yield said, rows_of(folder)
 
 
+def outcomes(results):
+    """What each refused allocation came to, what the program said and its status, with the bytes of the files then."""
+    states = {}
+    with open(results, "rb") as file:
+        while head := file.readline().split():
+            if head[0] == b"state":
+                states[int(head[1])] = tuple(None if int(it) < 0 else file.read(int(it)) for it in head[2:])
+            else:
+                number, status, state, *lengths = map(int, head)
+                out, err = (file.read(it).decode() for it in lengths)
+                told = [it for it in err.split("\n")[:-1] if not it.startswith("hint: ")]
+                yield number, (os.waitstatus_to_exitcode(status), out, told), states[state]
+
+
+def refused_each(folder, words, library):
+    """Runs the command with each of its allocations refused to a second process of it, and answers what became of each."""
+    results = f"{folder}.each"
+    env = dict(os.environ, LD_PRELOAD=library, REFUSE_EACH=results, REFUSE_FILES=":".join(FILES), GLIBC_TUNABLES=TUNABLES)
+    with open(f"{folder}.out", "w+b") as out, open(f"{folder}.err", "w+b") as err:
+        done = subprocess.run([program_of(sys.argv[1:2]), *words], stdin=subprocess.DEVNULL, stdout=out, stderr=err, cwd=folder, env=env)
+    if done.returncode not in (0, 1, 2):
+        raise RuntimeError(f"{words}: {done.returncode}, {open(f'{folder}.err', encoding='utf-8').read()}")
+    return outcomes(results)
+
+
 def tried(job):
-    """Refuses one allocation of the command; whether the command failed, and what is wrong with it, if anything is."""
-    here, words, library, number, right, before, fine = job
+    """Refuses each allocation of the command; how many there were, how often it failed, and what was wrong."""
+    here, words, library = job
     folder = f"{library}.{os.getpid()}"
     put(here, folder)
-    said, _ = run(folder, words, library, number)
-    found = rows_of(folder)
-    if said == right and found == fine[0]:
-        return False, None
-    is_new = not before and all(not rows for name, rows in found.items() if name != "ftd_meta")
-    if not is_failed(said, right, words[0] == "import") or not (found in fine or is_new):
-        return True, f"{words}, allocation {number}: {said}"
-    if files_of(folder) != files_of(here):
-        run(folder, words)
-        if rows_of(folder) != fine[0]:
-            return True, f"{words}, allocation {number}: the command run again leaves other tables"
-    return True, None
-
-
-def refused(here, words, library, folder, pool):
-    """Refuses each allocation of the command; how many there were, how often it failed, and how often that was wrong."""
-    put(here, folder)
-    right, calls = run(folder, words, library)
+    right, _ = run(folder, words)
     before, fine = rows_of(here), [rows_of(folder)]
     fine += [before]
     if words[0] == "import":
         fine += [rows for _, rows in states_within(here, words, folder)]
-    jobs = ((here, words, library, number, right, before, fine) for number in range(1, calls + 1))
-    failed = wrong = 0
-    for has_failed, what in pool.imap_unordered(tried, jobs, 64):
-        failed, wrong = failed + has_failed, wrong + bool(what)
-        if what:
-            print(what, flush=True)
-    return calls, failed, wrong
+
+    @functools.lru_cache(None)
+    def ends_right(files):
+        """Whether the command run again on the files, with memory, leaves the tables that it leaves alone."""
+        put(here, folder)
+        for name, held in zip(FILES, files):
+            with contextlib.suppress(FileNotFoundError):
+                os.remove(os.path.join(folder, name))
+            if held is not None:
+                with open(os.path.join(folder, name), "wb") as file:
+                    file.write(held)
+        run(folder, words)
+        return rows_of(folder) == fine[0]
+
+    put(here, folder)
+    number, failed, wrong = 0, 0, []
+    for number, said, files in refused_each(folder, words, library):
+        found = rows_in(files)
+        if said == right and found == fine[0]:
+            continue
+        failed += 1
+        is_new = not before and all(not rows for name, rows in found.items() if name != "ftd_meta")
+        if not is_failed(said, right, words[0] == "import") or not (found in fine or is_new):
+            wrong.append(f"{words}, allocation {number}: {said}")
+        elif files != files_of(here) and not ends_right(files):
+            wrong.append(f"{words}, allocation {number}: the command run again leaves other tables")
+    return number, failed, wrong
 
 
 def commands_of(step, here):
@@ -163,17 +194,26 @@ def begin(here):
     os.symlink(os.path.join(TOP, "examples"), os.path.join(here, "examples"))
 
 
-def through(name, library, top, pool):
-    """Runs the commands of the example one after the other, each with each of its allocations refused before; how often that was wrong."""
-    here, folder = os.path.join(top, name), os.path.join(top, "tried")
+def jobs_of(name, library, top):
+    """The commands of the example, each with a folder of the files that the commands before it left."""
+    here = os.path.join(top, name)
     begin(here)
-    commands = allocations = failures = wrong = 0
     for step in example(name).steps:
         for words in commands_of(step, here):
-            calls, failed, of_these = refused(here, words, library, folder, pool)
+            room = tempfile.mkdtemp(dir=top)
+            put(here, room)
+            yield room, words, library
             run(here, words)
-            commands, allocations, failures, wrong = commands + 1, allocations + calls, failures + failed, wrong + of_these
-            print(f"{name}, {commands}: {' '.join(words[:1])}: {allocations} refused, {failures} told, {wrong} wrong", file=sys.stderr, flush=True)
+
+
+def through(name, library, top, pool):
+    """Runs the commands of the example, each with each of its allocations refused; how often that was wrong."""
+    commands = allocations = failures = wrong = 0
+    jobs = list(jobs_of(name, library, top))
+    for (_, words, _), (calls, failed, of_these) in zip(jobs, pool.imap(tried, jobs)):
+        commands, allocations, failures, wrong = commands + 1, allocations + calls, failures + failed, wrong + len(of_these)
+        print(*of_these, sep="\n", end="\n" if of_these else "", flush=True)
+        print(f"{name}, {commands}: {' '.join(words[:1])}: {allocations} refused, {failures} told, {wrong} wrong", file=sys.stderr, flush=True)
     print(f"{name}: {commands} commands, {allocations} allocations refused, {failures} failures told, {wrong} wrong", flush=True)
     return wrong
 
