@@ -14,7 +14,7 @@ set -euo pipefail
 made=$(realpath "${1:-$(dirname "$0")/../out}")
 system=${2:+$(realpath "$2")}
 cd "$(dirname "$0")/.."
-room=$(mktemp -d /tmp/ftd-try-XXXXXX)
+room=$(mktemp -d)
 trap 'rm -rf "$room"' EXIT
 root=$room/system
 deb=$(awk '/\.deb$/ { print $2 }' "$made/SHA256SUMS")
