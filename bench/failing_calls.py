@@ -3,9 +3,9 @@
 
 It needs strace. Each command of an example's text (the examples of refused_program.py) is run on the files that the commands before it left: once to
 list its calls, and then once for each of these and each error that fits its kind. That call is not made, and answered by the error. Then the command
-has to print what it prints else, with the same status, and leave the same tables; only a hint may be missing, or a line or its end that
-standard error did not take. Or else it says that memory, the store, the file or standard output failed, in the first line of standard error, or
-the first below the notes of its answer, and ends with status 3: then what it printed is the beginning of what it prints else, and the tables are
+has to print what it prints else, with the same status, and leave the same tables; only a hint or a note below the answer may be missing, or a line or
+its end that standard error did not take. Or else it says that memory, the store, the file or standard output failed, in the first line of standard error, or
+the first below a refusal or the notes of its answer, and ends with status 3: then what it printed is the beginning of what it prints else, and the tables are
 those before it or those after it, and those after it if all of its answer was printed. An import may stop at one of its records: then the tables are
 those of the records before it, and it counted no more of them. Standard output is told to have failed exactly where a call that wrote to it did, and
 memory only where a call was refused for want of it. Whatever came of it, the same command is run again, with nothing that fails, on what is there: it
@@ -27,7 +27,7 @@ import sys
 import tempfile
 
 from office import program_of
-from refused_program import EXAMPLES, FAULTS, begin, commands_of, example, put, rows_of, states_within
+from refused_program import EXAMPLES, FAULTS, begin, commands_of, example, is_same, put, rows_of, states_within
 
 # The errors that fit a kind of call; of any other kind it is EIO.
 ERRORS = {
@@ -98,14 +98,14 @@ def is_part(lines, whole):
     return all(any(other.startswith(it) for other in rest) for it in lines)
 
 
-def fault_of(said):
-    """The line that says what failed: the first one of standard error, or the first below the notes of an answer."""
-    return next((it for it in said.told if not it.startswith("note: ")), None)
+def fault_of(said, right):
+    """The line that says what failed: the first one of standard error, or the first below a refusal or the notes of an answer."""
+    return next((it for it in said.told if it not in right.told), None)
 
 
-def is_told(call, way, said, found, states, is_import):
+def is_told(call, way, said, found, right, states, is_import):
     """Whether the command says that it failed, as it has to, with such tables."""
-    fault = fault_of(said)
+    fault = fault_of(said, right)
     if said.status != 3 or fault not in (*FAULTS, OUTPUT):
         return False
     if (fault == OUTPUT) != (call.kind in WRITES and call.file == 1):
@@ -116,20 +116,21 @@ def is_told(call, way, said, found, states, is_import):
     if is_import and fault != OUTPUT:
         counted = [it for it, (out, _) in enumerate(states) if out == said.out]
         return bool(at and counted) and min(counted) <= max(at)
-    right = states[-1][0]
-    return bool(at) and right.startswith(said.out) and (not right or said.out != right or found == states[-1][1])
+    return bool(at) and right.out.startswith(said.out) and (not right.out or said.out != right.out or found == states[-1][1])
 
 
 def outcome(call, way, said, found, right, states, is_import):
     """What came of a call that failed, or None where that is wrong."""
     if said[:3] == right[:3] and found == states[-1][1]:
         return "the same" if said.hints == right.hints else "the same, but for a hint"
+    if is_same(said, right) and found == states[-1][1]:
+        return "the same, but for a note"
     if said[:2] == right[:2] and found == states[-1][1] and call.kind in WRITES and call.file == 2:
         return "the same, but for a line of standard error" if is_part(said.told + said.hints, right.told + right.hints) else None
     if call.is_loader and said.status != 0 and not said.out and found == states[0][1]:
         return "not begun"
-    if is_told(call, way, said, found, states, is_import):
-        return f"{fault_of(said)}{', Corrupt' if any(it.startswith('Corrupt') for it in said.told) else ''}"
+    if is_told(call, way, said, found, right, states, is_import):
+        return f"{fault_of(said, right)}{', Corrupt' if any(it.startswith('Corrupt') for it in said.told) else ''}"
     return None
 
 

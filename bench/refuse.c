@@ -2,13 +2,13 @@
 
    REFUSE=N LD_PRELOAD=./refuse.so program
        runs the program with its Nth allocation answered by a null pointer.
-   REFUSE_EACH=FILE REFUSE_FILES=PATH:PATH LD_PRELOAD=./refuse.so program >OUT 2>ERR
-       runs it once, with OUT and ERR open to read too, and before each allocation makes a second process of it (fork), to which this allocation is refused and which goes on
-       to its end. Then the first process goes on where it was: what the second one wrote to OUT and ERR, which are files of their own, is
-       cut off, and the files named have the bytes again that they had. So no allocation is refused to a program that began anew, but to one
-       that is, up to it, in the state in which it would be; locks of the files are those of their descriptions, which both share.
-       FILE gets a line for each allocation, `N STATUS STATE OUTLENGTH ERRLENGTH`, with the bytes of OUT and ERR behind; and before the first line
-       that names a state of the files other than their first one, which is 0, a line `state STATE LENGTH LENGTH`, with their bytes (-1: no file).
+   REFUSE_EACH=FILE REFUSE_FILES=PATH:PATH LD_PRELOAD=./refuse.so program 1<>OUT 2<>ERR
+       runs it once, and before each allocation makes a second process of it (fork), to which this allocation is refused, and which goes on to
+       its end. Then the first process goes on where it was: what the second one wrote to OUT and ERR, which are files of their own, is cut off,
+       and the files named have the bytes again that they had. So an allocation is refused to a program that is, up to it, in the state in which
+       one that began anew would be. Locks of the files have to be those of their descriptions, which both processes share.
+       FILE gets a line for each allocation, `N STATUS STATE OUTLENGTH ERRLENGTH`, with the bytes of OUT and ERR behind it; and a line
+       `state STATE LENGTH LENGTH`, with the bytes of the files behind it (-1: no file), before the first line that names that state of the files.
 
    With REFUSE_COUNT, it prints on standard error at the end how many allocations there were. */
 #define _GNU_SOURCE

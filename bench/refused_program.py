@@ -2,7 +2,8 @@
 """Refuses each allocation of the program in turn, through every command of worked examples.
 
 It needs gcc. Each command of an example's text (examples/, docs/TUTORIAL.md) is run on the file that the commands before it left,
-with one allocation refused to a second process of it (refuse.c). It has to print what it prints with memory and leave the same tables; or say that there was no memory,
+with one allocation refused to a second process of it (refuse.c). It has to print what it prints with memory and leave the same tables, but that a
+note below its answer may be left out, as a hint may be; or say that there was no memory,
 or that the store or the file failed, and end with status 3. Then the tables are those before the command, or those of an import up
 to one of its records, or, where the store failed, those after the command; and where they are not those before it, the command run
 again, with memory, ends with the tables of the command alone. What a command printed before it failed is the beginning of what it
@@ -88,6 +89,17 @@ def put(source, folder):
     shutil.copytree(source, folder, symlinks=True)
 
 
+def is_note(line):
+    return line.startswith("note: ")
+
+
+def is_same(said, right):
+    """Whether it says what it says with memory, but that notes may be left out."""
+    rest = iter(filter(is_note, right[2]))
+    others = [[it for it in told if not is_note(it)] for told in (said[2], right[2])]
+    return said[:2] == right[:2] and others[0] == others[1] and all(it in rest for it in filter(is_note, said[2]))
+
+
 def is_failed(said, right, is_import):
     """Whether it says that it failed, after a part of what it says with memory."""
     status, out, told = said
@@ -131,7 +143,7 @@ def refused_each(folder, words, library):
 
 
 def tried(job):
-    """Refuses each allocation of the command; how many there were, how often it failed, and what was wrong."""
+    """Refuses each allocation of the command; how many there were, how often it failed, how often it left out a note, and what was wrong."""
     here, words, library = job
     folder = f"{library}.{os.getpid()}"
     put(here, folder)
@@ -155,10 +167,11 @@ def tried(job):
         return rows_of(folder) == fine[0]
 
     put(here, folder)
-    number, failed, wrong = 0, 0, []
+    number, failed, unnoted, wrong = 0, 0, 0, []
     for number, said, files in refused_each(folder, words, library):
         found = rows_in(files)
-        if said == right and found == fine[0]:
+        if is_same(said, right) and found == fine[0]:
+            unnoted += said != right
             continue
         failed += 1
         is_new = not before and all(not rows for name, rows in found.items() if name != "ftd_meta")
@@ -166,7 +179,7 @@ def tried(job):
             wrong.append(f"{words}, allocation {number}: {said}")
         elif files != files_of(here) and not ends_right(files):
             wrong.append(f"{words}, allocation {number}: the command run again leaves other tables")
-    return number, failed, wrong
+    return number, failed, unnoted, wrong
 
 
 def commands_of(step, here):
@@ -208,13 +221,16 @@ def jobs_of(name, library, top):
 
 def through(name, library, top, pool):
     """Runs the commands of the example, each with each of its allocations refused; how often that was wrong."""
-    commands = allocations = failures = wrong = 0
+    commands = allocations = failures = unnoted = wrong = 0
     jobs = list(jobs_of(name, library, top))
-    for (_, words, _), (calls, failed, of_these) in zip(jobs, pool.imap(tried, jobs)):
+    for (_, words, _), (calls, failed, left_out, of_these) in zip(jobs, pool.imap(tried, jobs)):
         commands, allocations, failures, wrong = commands + 1, allocations + calls, failures + failed, wrong + len(of_these)
+        unnoted += left_out
         print(*of_these, sep="\n", end="\n" if of_these else "", flush=True)
-        print(f"{name}, {commands}: {' '.join(words[:1])}: {allocations} refused, {failures} told, {wrong} wrong", file=sys.stderr, flush=True)
-    print(f"{name}: {commands} commands, {allocations} allocations refused, {failures} failures told, {wrong} wrong", flush=True)
+        so_far = f"{allocations} refused, {failures} told, {unnoted} without a note, {wrong} wrong"
+        print(f"{name}, {commands}: {' '.join(words[:1])}: {so_far}", file=sys.stderr, flush=True)
+    told = f"{failures} failures told, {unnoted} answers without a note"
+    print(f"{name}: {commands} commands, {allocations} allocations refused, {told}, {wrong} wrong", flush=True)
     return wrong
 
 
