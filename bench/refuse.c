@@ -8,13 +8,10 @@
        and the files named have the bytes again that they had. So an allocation is refused to a program that is, up to it, in the state in which
        one that began anew would be. Locks of the files have to be those of their descriptions, which both processes share.
        FILE gets a line for each allocation, `N STATUS STATE OUTLENGTH ERRLENGTH`, with the bytes of OUT and ERR behind it; and a line
-       `state STATE LENGTH LENGTH`, with the bytes of the files behind it (-1: no file), before the first line that names that state of the files.
-
-   With REFUSE_COUNT, it prints on standard error at the end how many allocations there were. */
+       `state STATE LENGTH LENGTH`, with the bytes of the files behind it (-1: no file), before the first line that names that state of the files. */
 #define _GNU_SOURCE
 #include <dlfcn.h>
 #include <fcntl.h>
-#include <stdarg.h>
 #include <stdio.h>
 #include <stdlib.h>
 #include <string.h>
@@ -201,7 +198,3 @@ static int is_none(void) {
 void *malloc(size_t size) { return is_none() ? NULL : real_malloc(size); }
 
 void *realloc(void *old, size_t size) { return is_none() ? NULL : real_realloc(old, size); }
-
-__attribute__((destructor)) static void tell(void) {
-    if (getenv("REFUSE_COUNT") && !is_second) dprintf(2, "%lu calls\n", calls);
-}

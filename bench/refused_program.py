@@ -47,15 +47,15 @@ def example(name):
     return next(it for it in examples_of(text)[0] if it.title == title)
 
 
-def run(folder, words, library=None, number=0):
-    """What the program says and its status, and how many allocations it asked for. Hints may be left out where there is no memory."""
-    env = dict(os.environ)
-    if library:
-        env.update(LD_PRELOAD=library, REFUSE=str(number), REFUSE_COUNT="1")
-    done = subprocess.run([program_of(sys.argv[1:2]), *words], capture_output=True, cwd=folder, env=env, stdin=subprocess.DEVNULL)
-    told = done.stderr.decode().split("\n")[:-1]
-    calls = int(told.pop().split()[0]) if told and told[-1].endswith(" calls") else 0
-    return (done.returncode, done.stdout.decode(), [it for it in told if not it.startswith("hint: ")]), calls
+def said_by(status, out, err):
+    """What the program says: its status, what it printed, and the lines of standard error but the hints, which may be left out."""
+    return status, out.decode(), [it for it in err.decode().split("\n")[:-1] if not it.startswith("hint: ")]
+
+
+def run(folder, words):
+    """What the program says in the folder."""
+    done = subprocess.run([program_of(sys.argv[1:2]), *words], capture_output=True, cwd=folder, stdin=subprocess.DEVNULL)
+    return said_by(done.returncode, done.stdout, done.stderr)
 
 
 def files_of(folder):
@@ -100,10 +100,13 @@ def is_same(said, right):
     return said[:2] == right[:2] and others[0] == others[1] and all(it in rest for it in filter(is_note, said[2]))
 
 
-def is_failed(said, right, is_import):
-    """Whether it says that it failed, after a part of what it says with memory."""
+def is_failed(said, right, verb):
+    """Whether it says that it failed, after a part of what it says with memory. `open-years` says it in the line of the account, too."""
     status, out, told = said
-    return status == 3 and told and told[0] in FAULTS and (is_import or right[1].startswith(out))
+    if verb == "open-years" and told:
+        *lines, last = out.splitlines(keepends=True) or [""]
+        out = "".join(lines) + ("" if last.endswith(f" {told[0]}\n") else last)
+    return status == 3 and told and told[0] in FAULTS and (verb == "import" or right[1].startswith(out))
 
 
 def states_within(here, words, folder):
@@ -113,8 +116,7 @@ def states_within(here, words, folder):
         put(here, folder)
         with open(os.path.join(folder, words[-1]), "w", encoding="utf-8") as page:
             page.write("".join(text[:end]))
-        said, _ = run(folder, words)
-        yield said, rows_of(folder)
+        yield run(folder, words), rows_of(folder)
 
 
 def outcomes(results):
@@ -126,9 +128,8 @@ def outcomes(results):
                 states[int(head[1])] = tuple(None if int(it) < 0 else file.read(int(it)) for it in head[2:])
             else:
                 number, status, state, *lengths = map(int, head)
-                out, err = (file.read(it).decode() for it in lengths)
-                told = [it for it in err.split("\n")[:-1] if not it.startswith("hint: ")]
-                yield number, (os.waitstatus_to_exitcode(status), out, told), states[state]
+                out, err = map(file.read, lengths)
+                yield number, said_by(os.waitstatus_to_exitcode(status), out, err), states[state]
 
 
 def refused_each(folder, words, library):
@@ -147,7 +148,7 @@ def tried(job):
     here, words, library = job
     folder = f"{library}.{os.getpid()}"
     put(here, folder)
-    right, _ = run(folder, words)
+    right = run(folder, words)
     before, fine = rows_of(here), [rows_of(folder)]
     fine += [before]
     if words[0] == "import":
@@ -175,7 +176,7 @@ def tried(job):
             continue
         failed += 1
         is_new = not before and all(not rows for name, rows in found.items() if name != "ftd_meta")
-        if not is_failed(said, right, words[0] == "import") or not (found in fine or is_new):
+        if not is_failed(said, right, words[0]) or not (found in fine or is_new):
             wrong.append(f"{words}, allocation {number}: {said}")
         elif files != files_of(here) and not ends_right(files):
             wrong.append(f"{words}, allocation {number}: the command run again leaves other tables")
